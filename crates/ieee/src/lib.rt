@@ -1,0 +1,126 @@
+// IEEE 754's binary64, worked out from bit patterns. A value is the logic's `Float` (specs/), of which
+// each contract names the definition that its result equals. No function asks anything of its caller.
+mod root;
+
+ghost use mathlib.Core.Path.{_≡_};
+ghost use lib.Ieee.{binary64, toBits, ofBits, toUnsigned};
+ghost use Rattle.ieee.specs.Parts.{magnitude, isFinite, floorOf, ceilOf, larger};
+ghost use Rattle.ieee.specs.Root.{root};
+
+// x's bit pattern. Every NaN has the pattern 0x7ff8000000000000.
+pub fn bits_of(x: f64) -> u64
+    ensures { λ r. ⌜ r ≡ toBits binary64 x ⌝ }
+{
+    if x != x {
+        0x7ff8_0000_0000_0000
+    } else {
+        f64::to_bits(x)
+    }
+}
+
+// The value that has the bit pattern b. Every NaN pattern gives a NaN.
+pub fn from_bits(b: u64) -> f64
+    ensures { λ r. ⌜ r ≡ ofBits binary64 b ⌝ }
+{
+    if (b & 0x7fff_ffff_ffff_ffff) > 0x7ff0_0000_0000_0000 {
+        0.0 / 0.0
+    } else {
+        f64::from_bits(b)
+    }
+}
+
+// x without its sign.
+pub fn abs(x: f64) -> f64
+    ensures { λ r. ⌜ r ≡ magnitude x ⌝ }
+{
+    if x != x {
+        x
+    } else {
+        f64::from_bits(f64::to_bits(x) & 0x7fff_ffff_ffff_ffff)
+    }
+}
+
+// Whether x is neither a NaN nor an infinity.
+pub fn is_finite(x: f64) -> bool
+    ensures { λ r. ⌜ r ≡ isFinite x ⌝ }
+{
+    (bits_of(x) & 0x7fff_ffff_ffff_ffff) < 0x7ff0_0000_0000_0000
+}
+
+// The larger of a and b; where one of them is a NaN, the other. Rust's `f64::max`.
+pub fn max(a: f64, b: f64) -> f64
+    ensures { λ r. ⌜ r ≡ larger a b ⌝ }
+{
+    if a != a {
+        return b;
+    }
+    if b != b {
+        return a;
+    }
+    if a < b {
+        return b;
+    }
+    a
+}
+
+// The largest whole number that is at most x.
+pub fn floor(x: f64) -> f64
+    ensures { λ r. ⌜ r ≡ floorOf x ⌝ }
+{
+    let a = abs(x);
+    if a < 9007199254740992.0 {
+        let n = std::num::truncating_f64_to_u64(a);
+        let w = n as f64;
+        if w == a {
+            return x;
+        }
+        if x < 0.0 {
+            return -((n + 1) as f64);
+        }
+        return w;
+    }
+    x
+}
+
+// The smallest whole number that is at least x.
+pub fn ceil(x: f64) -> f64
+    ensures { λ r. ⌜ r ≡ ceilOf x ⌝ }
+{
+    -floor(-x)
+}
+
+// x without its fraction: Rust's `x as u32`. Beyond either end of the range it is that end, and 0
+// for a NaN.
+pub fn whole_part(x: f64) -> u32
+    ensures { λ r. ⌜ r ≡ toUnsigned 32 x ⌝ }
+{
+    if x > 4294967295.0 {
+        return 4294967295;
+    }
+    if x > 0.0 {
+        return std::num::truncating_f64_to_u64(x) as u32;
+    }
+    0
+}
+
+// The square root of x.
+pub fn sqrt(x: f64) -> f64
+    ensures { λ r. ⌜ r ≡ root binary64 x ⌝ }
+{
+    if x > 0.0 {
+        let b = f64::to_bits(x);
+        if b < 0x10_0000_0000_0000 {
+            let s = u64::leading_zeros(b) - 11;
+            return root::scaled_root(b << s, 1074 - (s as u64));
+        }
+        let g = b >> 52;
+        if g == 2047 {
+            return x;
+        }
+        return root::scaled_root((b & 0xf_ffff_ffff_ffff) | 0x10_0000_0000_0000, g + 1073);
+    }
+    if x == 0.0 {
+        return x;
+    }
+    0.0 / 0.0
+}
