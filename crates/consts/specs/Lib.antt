@@ -1,0 +1,2 @@
+-- What the contracts of `consts` cite.
+pub mod Consts

@@ -1,0 +1,31 @@
+-- Places and directions, as the definitions write them, and the division into source pixels. Definitions only.
+use Prim.Native.Nat.{ℕ}
+use mathlib.Core.List.{List}
+use lib.ListN.{getD}
+use lib.Ieee.{Float, nan}
+use Rattle.ieee.specs.Floats.{_⊘_}
+use Rattle.pixel.specs.declared.WorkingPixel.{WorkingPixel}
+use Rattle.pixel.specs.declared.SourcePixel.{SourcePixel}
+use Rattle.pixel.specs.declared.Direction.{Direction}
+use Rattle.pixel.specs.declared.EdgePoint.{EdgePoint}
+
+abbrev pub source : Float → Float → SourcePixel
+source x y = record { 0 = x; 1 = y }
+
+abbrev pub direction : Float → Float → Direction
+direction x y = record { x = x; y = y }
+
+abbrev pub edgePoint : SourcePixel → Float → EdgePoint
+edgePoint p w = record { pos = p; weight = w }
+
+-- Four corners are a list. Past its end the code's own reading of a float is `nan`, so this is too.
+abbrev pub corner : List SourcePixel → ℕ → SourcePixel
+corner q i = getD q i (source nan nan)
+
+unfoldable pub toSource : Float → Float → WorkingPixel → SourcePixel
+toSource sx sy c = source (c .0 ⊘ sx) (c .1 ⊘ sy)
+
+-- all of the above, for a proof that computes with them: to unfold this is to unfold what its line names
+unfoldable pub opened : Unit {0}
+unfolding toSource
+opened = tt
