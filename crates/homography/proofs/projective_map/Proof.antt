@@ -1,0 +1,15 @@
+-- `homography::projective_map` meets its contract: the same operations, and no map where the denominator is 0. Assumes nothing.
+use Rattle.homography.specs.Homography.{projective}
+use Rattle.homography.proofs.projective_map.Statement.{statement}
+use Rattle.homography.proofs.projective_map.Tie as tie
+
+returns : tie.Need-returns
+unfolding projective
+returns c = simp (c .if1 .taken)
+
+returns-2 : tie.Need-returns-2
+unfolding projective
+returns-2 c = rw (c .before .before .before .before .before .before .before .before .before .before .before .before .if1 .left)
+
+pub projective-map-spec : {M : Type 1} → statement M
+projective-map-spec = tie.close (tie.spec returns returns-2)
