@@ -1,0 +1,3 @@
+-- What the contracts of `line` cite.
+pub mod Sums
+pub mod Line

@@ -1,0 +1,312 @@
+// line.rs: the weighted total-least-squares line, and the crossing of two lines.
+ghost use mathlib.Core.Path.{_≡_};
+ghost use mathlib.Core.Bool.{not, _&&_};
+ghost use lib.ListN.{length};
+ghost use Rattle.ieee.specs.Parts.{isFinite};
+ghost use Rattle.ieee.specs.Floats.{_⊗_, _≺_, f0};
+ghost use Rattle.line.specs.Sums.{at, sumTo, allTo};
+ghost use Rattle.line.specs.Line.{
+  crossAnswer,
+  crossing,
+  finiteTo,
+  fitFinite,
+  fitLine,
+  fitMoments,
+  fitPaired,
+  leaning,
+  lineAnswer,
+  scatter,
+  spread,
+};
+use pixel::Direction;
+use pixel::SourcePixel;
+
+// Rust's `f64::EPSILON`: points whose spread is no larger lie on one spot.
+const EPSILON: f64 = 2.220446049250313e-16;
+
+// Directions whose cross product is smaller are parallel: their angle is under 1e-9.
+const PARALLEL_CROSS: f64 = 1e-9;
+
+// A line: the points' weighted centroid, and the unit direction.
+pub struct Line2 {
+    pub centroid: SourcePixel,
+    pub dir: Direction,
+}
+
+// The scatter of points around their centroid.
+pub struct Moments {
+    pub sxx: f64,
+    pub sxy: f64,
+    pub syy: f64,
+}
+
+// A fitted line, or the number of its refusal.
+pub enum Fitted {
+    Along(Line2),
+    Refused(u32),
+}
+
+// Where two lines cross, if they do.
+pub enum Crossing {
+    At(SourcePixel),
+    Parallel,
+}
+
+// What the line fit returns: a number of document 01, and the line or zeros.
+pub struct LineAnswer {
+    pub number: u32,
+    pub line: Line2,
+}
+
+// What the crossing returns: a number of document 01, and the place or zeros.
+pub struct CrossAnswer {
+    pub number: u32,
+    pub place: SourcePixel,
+}
+
+// Whether all of a list are finite.
+pub fn all_finite(values: &[f64]) -> bool
+    ensures { λ r. ⌜ r ≡ finiteTo (length (now (values .entry))) (now (values .entry)) ⌝ }
+{
+    let mut i: usize = 0;
+    while i < values.len() {
+        if !ieee::is_finite(values[i]) {
+            return false;
+        }
+        i += 1;
+    }
+    true
+}
+
+fn none_negative(weights: &[f64]) -> bool
+    ensures { λ r. ⌜ r ≡ allTo (length (now (weights .entry))) (λ i. not (at (now (weights .entry)) i ≺ f0)) ⌝ }
+{
+    let mut i: usize = 0;
+    while i < weights.len() {
+        if weights[i] < 0.0 {
+            return false;
+        }
+        i += 1;
+    }
+    true
+}
+
+fn sum(values: &[f64]) -> f64
+    ensures { λ r. ⌜ r ≡ sumTo (length (now (values .entry))) (at (now (values .entry))) ⌝ }
+{
+    let mut total = 0.0;
+    let mut i: usize = 0;
+    while i < values.len() {
+        total = total + values[i];
+        i += 1;
+    }
+    total
+}
+
+fn weighted_sum(values: &[f64], weights: &[f64]) -> f64
+    requires { ⌜ length (now weights) ≡ length (now values) ⌝ }
+    ensures { λ r. ⌜ r ≡ sumTo (length (now (values .entry))) (λ i. at (now (values .entry)) i ⊗ at (now (weights .entry)) i) ⌝ }
+{
+    let mut total = 0.0;
+    let mut i: usize = 0;
+    while i < values.len() {
+        total = total + values[i] * weights[i];
+        i += 1;
+    }
+    total
+}
+
+fn scatter_of(xs: &[f64], ys: &[f64], weights: &[f64], c: SourcePixel) -> Moments
+    requires { ⌜ length (now ys) ≡ length (now xs) ⌝ ∗ ⌜ length (now weights) ≡ length (now xs) ⌝ }
+    ensures { λ r. ⌜ r ≡ scatter (length (now (xs .entry))) (now (xs .entry)) (now (ys .entry)) (now (weights .entry)) c ⌝ }
+{
+    let mut sxx = 0.0;
+    let mut sxy = 0.0;
+    let mut syy = 0.0;
+    let mut i: usize = 0;
+    while i < xs.len() {
+        let dx = xs[i] - c.0;
+        let dy = ys[i] - c.1;
+        let w = weights[i];
+        sxx = sxx + w * dx * dx;
+        sxy = sxy + w * dx * dy;
+        syy = syy + w * dy * dy;
+        i += 1;
+    }
+    Moments { sxx, sxy, syy }
+}
+
+// The direction at half the angle of (a, b), whose length is h. The larger part is a root and the smaller
+// one a quotient by it, since the root of a small difference would lose digits.
+fn lean(a: f64, b: f64, h: f64) -> Direction
+    ensures { λ r. ⌜ r ≡ leaning a b h ⌝ }
+{
+    if a >= 0.0 {
+        let c = ieee::sqrt((h + a) / (2.0 * h));
+        return Direction {
+            x: c,
+            y: b / (2.0 * h * c),
+        };
+    }
+    let m = ieee::sqrt((h - a) / (2.0 * h));
+    if b >= 0.0 {
+        return Direction {
+            x: b / (2.0 * h * m),
+            y: m,
+        };
+    }
+    Direction {
+        x: b / (2.0 * h * -m),
+        y: -m,
+    }
+}
+
+// The direction of the larger spread; along x where no direction has more than another.
+fn direction_of(m: Moments) -> Direction
+    ensures { λ r. ⌜ r ≡ spread m ⌝ }
+{
+    let a = m.sxx - m.syy;
+    let b = 2.0 * m.sxy;
+    let h = ieee::sqrt(a * a + b * b);
+    if h == 0.0 {
+        return Direction { x: 1.0, y: 0.0 };
+    }
+    lean(a, b, h)
+}
+
+fn both_finite(x: f64, y: f64) -> bool
+    ensures { λ r. ⌜ r ≡ (isFinite x && isFinite y) ⌝ }
+{
+    if !ieee::is_finite(x) {
+        return false;
+    }
+    ieee::is_finite(y)
+}
+
+fn fit_moments(c: SourcePixel, m: Moments) -> Fitted
+    ensures { λ r. ⌜ r ≡ fitMoments c m ⌝ }
+{
+    if m.sxx + m.syy <= EPSILON {
+        return Fitted::Refused(number::LINE);
+    }
+    if !both_finite(c.0, c.1) {
+        return Fitted::Refused(number::OVERFLOW);
+    }
+    let d = direction_of(m);
+    if !both_finite(d.x, d.y) {
+        return Fitted::Refused(number::OVERFLOW);
+    }
+    Fitted::Along(Line2 {
+        centroid: c,
+        dir: d,
+    })
+}
+
+fn fit_finite(xs: &[f64], ys: &[f64], weights: &[f64]) -> Fitted
+    requires { ⌜ length (now ys) ≡ length (now xs) ⌝ ∗ ⌜ length (now weights) ≡ length (now xs) ⌝ }
+    ensures { λ r. ⌜ r ≡ fitFinite (length (now (xs .entry))) (now (xs .entry)) (now (ys .entry)) (now (weights .entry)) ⌝ }
+{
+    let total = sum(weights);
+    if total <= 0.0 {
+        return Fitted::Refused(number::WEIGHT);
+    }
+    if !none_negative(weights) {
+        return Fitted::Refused(number::WEIGHT);
+    }
+    let c = SourcePixel(
+        weighted_sum(xs, weights) / total,
+        weighted_sum(ys, weights) / total,
+    );
+    let m = scatter_of(xs, ys, weights, c);
+    fit_moments(c, m)
+}
+
+fn fit_paired(xs: &[f64], ys: &[f64], weights: &[f64]) -> Fitted
+    requires { ⌜ length (now ys) ≡ length (now xs) ⌝ ∗ ⌜ length (now weights) ≡ length (now xs) ⌝ }
+    ensures { λ r. ⌜ r ≡ fitPaired (length (now (xs .entry))) (now (xs .entry)) (now (ys .entry)) (now (weights .entry)) ⌝ }
+{
+    if !all_finite(xs) {
+        return Fitted::Refused(number::FINITE);
+    }
+    if !all_finite(ys) {
+        return Fitted::Refused(number::FINITE);
+    }
+    if !all_finite(weights) {
+        return Fitted::Refused(number::FINITE);
+    }
+    fit_finite(xs, ys, weights)
+}
+
+// The line through the points (x, y) with these weights.
+pub fn fit_line(xs: &[f64], ys: &[f64], weights: &[f64]) -> Fitted
+    ensures { λ r. ⌜ r ≡ fitLine (now (xs .entry)) (now (ys .entry)) (now (weights .entry)) ⌝ }
+{
+    if xs.len() < 2 {
+        return Fitted::Refused(number::POINTS);
+    }
+    if ys.len() < 2 {
+        return Fitted::Refused(number::POINTS);
+    }
+    if xs.len() != ys.len() {
+        return Fitted::Refused(number::PAIRING);
+    }
+    if xs.len() != weights.len() {
+        return Fitted::Refused(number::PAIRING);
+    }
+    fit_paired(xs, ys, weights)
+}
+
+// The line fit by itself: number 0 and the line, or the number of the refusal and zeros.
+pub fn fit_line_tls_weighted(xs: &[f64], ys: &[f64], weights: &[f64]) -> LineAnswer
+    ensures { λ r. ⌜ r ≡ lineAnswer (fitLine (now (xs .entry)) (now (ys .entry)) (now (weights .entry))) ⌝ }
+{
+    match fit_line(xs, ys, weights) {
+        Fitted::Along(line) => LineAnswer {
+            number: number::ANSWER,
+            line,
+        },
+        Fitted::Refused(n) => LineAnswer {
+            number: n,
+            line: Line2 {
+                centroid: SourcePixel(0.0, 0.0),
+                dir: Direction { x: 0.0, y: 0.0 },
+            },
+        },
+    }
+}
+
+// Where two lines cross, as a place on the first: along the second it would have other bits.
+pub fn cross_lines(a: Line2, b: Line2) -> Crossing
+    ensures { λ r. ⌜ r ≡ crossing a b ⌝ }
+{
+    let cross = a.dir.x * b.dir.y - a.dir.y * b.dir.x;
+    if !ieee::is_finite(cross) {
+        return Crossing::Parallel;
+    }
+    if ieee::abs(cross) < PARALLEL_CROSS {
+        return Crossing::Parallel;
+    }
+    let dx = b.centroid.0 - a.centroid.0;
+    let dy = b.centroid.1 - a.centroid.1;
+    let distance = (dx * b.dir.y - dy * b.dir.x) / cross;
+    Crossing::At(SourcePixel(
+        a.centroid.0 + distance * a.dir.x,
+        a.centroid.1 + distance * a.dir.y,
+    ))
+}
+
+// The crossing by itself: number 0 and the place, or 18 and zeros.
+pub fn intersect_lines(a: Line2, b: Line2) -> CrossAnswer
+    ensures { λ r. ⌜ r ≡ crossAnswer (crossing a b) ⌝ }
+{
+    match cross_lines(a, b) {
+        Crossing::At(place) => CrossAnswer {
+            number: number::ANSWER,
+            place,
+        },
+        Crossing::Parallel => CrossAnswer {
+            number: number::PARALLEL,
+            place: SourcePixel(0.0, 0.0),
+        },
+    }
+}
