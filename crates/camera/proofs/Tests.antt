@@ -1,0 +1,25 @@
+-- What a test in the code says of the condition in the definition. Each is the table of its two or three truth values. Assumes nothing.
+use mathlib.Core.Path.{_≡_, sym, _∙_}
+use mathlib.Core.Bool.{Bool, true, false, not, _&&_, and-assoc}
+use lib.Ieee.{Float, eq, ne}
+use borrow.Author.Tests.{not-true, not-false}
+
+-- `if !f(..) { return .. }`, where f decides b
+pub failed : {r b : Bool} → r ≡ b → not r ≡ true → b ≡ false
+failed {r} e h = sym e ∙ not-true r h
+
+pub passed : {r b : Bool} → r ≡ b → not r ≡ false → b ≡ true
+passed {r} e h = sym e ∙ not-false r h
+
+-- `if x != y { return .. }`
+pub differ : (x y : Float) → ne x y ≡ true → eq x y ≡ false
+unfolding ne
+differ x y h = not-true (eq x y) h
+
+pub agree : (x y : Float) → ne x y ≡ false → eq x y ≡ true
+unfolding ne
+agree x y h = not-false (eq x y) h
+
+-- two conditions that one call decides, behind others that hold
+pub and-pair : (a b c : Bool) {t : Bool} → a ≡ true → (b && c) ≡ t → (a && b && c) ≡ t
+and-pair a b c e h = rw (and-assoc a b c, h, e)

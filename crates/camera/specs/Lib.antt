@@ -1,0 +1,2 @@
+-- What the contracts of `camera` cite.
+pub mod Camera
