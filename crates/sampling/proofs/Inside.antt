@@ -1,0 +1,131 @@
+-- Every pixel that a sample of the refinement reads lies in the picture. Why: the sample is rejected unless 0 <= x <= width - 1, so the whole part of x is at most
+-- width - 1, and the column to its right is cut there; the same for the rows. Assumes nothing.
+use mathlib.Core.Path.{_≡_, refl, sym, ap, _∙_, subst}
+use Prim.Native.Nat.{ℕ, _-_, _*_, _/_, _^_, _≤_, _<_, min, zero-le}
+use native.Mathlib.Nat.{le-trans, div-le-of-le-mul, mul-comm, mul-right-comm, mul-one, le-of-mul-le-mul-right, mul-lt-mul-of-pos-right, le-of-lt}
+use native.Mathlib.Omega.{arith}
+use mathlib.Core.Bool.{Bool, true, false, not, _&&_, _||_, true≢false}
+use lib.IntN.{ℤ}
+use lib.Dec.{leb, lit<}
+use lib.Pow.{pow-add, pow-pos}
+use borrow.Author.Tests.{ltb-false, leb-true, not-false}
+use lib.Ieee.{Float, nan, inf, fin, binary64, up, down, lt, ofInt, toUnsigned}
+use lib.Ieee.Exact.{HasValue, round-exact}
+use lib.Ieee.Fits.{down-pos}
+use Rattle.ieee.specs.Parts.{isFinite}
+use Rattle.ieee.specs.Floats.{if_then_else_, _≺_, f0, float, wholePart}
+use Rattle.pixel.specs.declared.SourcePixel.{SourcePixel}
+use Rattle.camera.specs.declared.Placed.{Placed}
+use Rattle.camera.specs.declared.Placed.the-variants.{On, Nowhere}
+use Rattle.camera.specs.Camera.{rectifiedToSource}
+use Rattle.sampling.specs.Photographs.{sized, goodSize}
+use Rattle.sampling.specs.declared.BorderMode.the-variants.{Reject}
+use Rattle.sampling.specs.declared.Spot.the-variants.{Off}
+use Rattle.sampling.specs.declared.View.{View}
+use Rattle.sampling.specs.declared.View.the-variants.{Plain, Calibrated}
+use Rattle.sampling.specs.declared.Scene.{Scene}
+use Rattle.sampling.specs.Sampling.{within, outside, beyond, spot, touched, placedSpot, viewedSpot, sceneSpot}
+use Rattle.sampling.proofs.Pixels.{Each, Inside}
+
+-- ---- the whole part of a value that is not above n
+
+-- a whole number below 2 to the 53 is a float of that value
+float-value : (n : ℕ) → n < 2 ^ 53 → HasValue (float n) false n 1
+unfolding ofInt
+float-value n h =
+    round-exact binary64 false n 1 n 1074 (lit< tt) h
+    (subst (λ (k : ℕ). n * 2 ^ 1074 < k) (sym (pow-add 2 1024 1074)) (mul-lt-mul-of-pos-right {n = 2 ^ 1024} (le-trans h (le-of-lt (lit< tt))) (pow-pos 1074)))
+    (sym (mul-one (n * 2 ^ 1074)))
+
+not-below : (n : ℕ) (y : Float) (m : ℕ) (e : ℤ) → HasValue y false n 1 → lt y (fin false m e) ≡ false → m * up e / down e ≤ n
+unfolding lt
+not-below n nan m e v h = absurd v
+not-below n (inf s) m e v h = absurd v
+not-below n (fin true k d) m e v h = absurd (true≢false (v .0))
+not-below n (fin false k d) m e v h =
+    div-le-of-le-mul (down e)
+    (le-of-mul-le-mul-right
+    (subst (λ (r : ℕ). m * up e * down d ≤ r)
+    (ap (λ (r : ℕ). r * down e) (sym (mul-one (k * up d)) ∙ v .1) ∙ mul-right-comm n (down d) (down e) ∙ ap (λ (r : ℕ). r * down d) (mul-comm n (down e)))
+    (ltb-false (k * up d * down e) (m * up e * down d) h))
+    (down-pos d))
+
+whole-part-le : (n : ℕ) (x : Float) → n < 2 ^ 53 → isFinite x ≡ true → (float n ≺ x) ≡ false → wholePart x ≤ n
+unfolding isFinite toUnsigned
+whole-part-le n nan h f l = zero-le
+whole-part-le n (inf s) h f l = absurd (true≢false (sym f))
+whole-part-le n (fin true m e) h f l = zero-le
+whole-part-le n (fin false m e) h f l = capped (m * up e / down e) (2 ^ 32 - 1) n (not-below n (float n) m e (float-value n h) l)
+  where
+    capped : (a b c : ℕ) → a ≤ c → min a b ≤ c
+    capped a b c k = omega arith
+
+-- ---- a spot
+
+or-left : (a b : Bool) → (a || b) ≡ false → a ≡ false
+or-left true b h = h
+or-left false b h = refl
+
+or-right : (a b : Bool) → (a || b) ≡ false → b ≡ false
+or-right true b h = absurd (true≢false h)
+or-right false b h = h
+
+-- what check 1 says of a size
+pub record Sized (w h : ℕ) : Type 0 where
+  pub wide : 0 < w
+  pub high : 0 < h
+  pub narrow : w ≤ 16384
+  pub low : h ≤ 16384
+
+and-true : (a b : Bool) → (a && b) ≡ true → (a ≡ true) × (b ≡ true)
+and-true true b h = (refl, h)
+and-true false b h = absurd (true≢false (sym h))
+
+size-limits : (n : ℕ) → sized n ≡ true → (1 ≤ n) × (n ≤ 16384)
+unfolding sized
+size-limits n h = let t = and-true (leb 1 n) (leb n 16384) h in (leb-true 1 n (t .0), leb-true n 16384 (t .1))
+
+pub size-checked : (w h : ℕ) → goodSize w h ≡ true → Sized w h
+unfolding goodSize
+size-checked w h e =
+    let t = and-true (sized w) (sized h) e in
+    let x = size-limits w (t .0) in
+    let y = size-limits h (t .1) in
+    record { wide = x .0; high = y .0; narrow = x .1; low = y .1 }
+
+module _ (w h : ℕ) (size : Sized w h) where
+  pub spot-inside : (x y : Float) → Each (Inside w h) (touched (spot w h Reject x y))
+  unfolding touched spot beyond within outside
+  spot-inside x y = go (not (isFinite x) || not (isFinite y)) refl (outside w h x y) refl
+    where
+      go : (a : Bool) → (not (isFinite x) || not (isFinite y)) ≡ a → (b : Bool) → outside w h x y ≡ b
+          → Each (Inside w h) (touched (if a then Off else if b then beyond w h Reject x y else within w h x y))
+      go true ea b eb = tt
+      go false ea true eb = tt
+      go false ea false eb =
+          let bx : wholePart x ≤ w - 1 = whole-part-le (w - 1) x (omega arith) (not-false (isFinite x) (or-left (not (isFinite x)) (not (isFinite y)) ea))
+          (or-right ((x ≺ f0) || (y ≺ f0)) (float (w - 1) ≺ x) (or-left ((x ≺ f0) || (y ≺ f0) || (float (w - 1) ≺ x)) (float (h - 1) ≺ y) eb)) in
+          let by : wholePart y ≤ h - 1 = whole-part-le (h - 1) y (omega arith) (not-false (isFinite y) (or-right (not (isFinite x)) (not (isFinite y)) ea))
+          (or-right ((x ≺ f0) || (y ≺ f0) || (float (w - 1) ≺ x)) (float (h - 1) ≺ y) eb) in (
+            record { across = omega arith; down = omega arith },
+            (
+              record { across = omega arith; down = omega arith },
+              (
+                record { across = omega arith; down = omega arith },
+                (record { across = omega arith; down = omega arith }, tt),
+              ),
+            ),
+          )
+
+  placed-inside : (r : Placed) → Each (Inside w h) (touched (placedSpot w h r))
+  unfolding placedSpot touched
+  placed-inside (On q) = spot-inside (q .0) (q .1)
+  placed-inside Nowhere = tt
+
+  viewed-inside : (v : View) (q : SourcePixel) → Each (Inside w h) (touched (viewedSpot w h v q))
+  unfolding viewedSpot
+  viewed-inside Plain q = spot-inside (q .0) (q .1)
+  viewed-inside (Calibrated c) q = placed-inside (rectifiedToSource c q)
+
+pub scene-inside : (e : Scene) → Sized (e .width) (e .height) → (q : SourcePixel) → Each (Inside (e .width) (e .height)) (touched (sceneSpot e q))
+scene-inside e size q = viewed-inside (e .width) (e .height) size (e .view) q

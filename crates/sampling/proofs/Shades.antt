@@ -1,0 +1,61 @@
+-- What a sample shows and marks: where a pixel lies among the bytes, what four pixels come to, and each case of a spot. The four reads are the
+-- definition's four, in its order, so the laws only put them together. And two photographs that agree on what a sample reads: it shows nothing
+-- but those bytes. Assumes nothing.
+use mathlib.Core.Path.{_≡_, refl, ap}
+use Prim.Native.Nat.{ℕ, _+_, _*_, _≤_}
+use native.Mathlib.Nat.{mul-le-mul-left, mul-le-mul-right, le-trans}
+use mathlib.Core.List.{List}
+use lib.ListN.{set}
+use lib.Ieee.{Float}
+use Rattle.ieee.specs.Floats.{_⊕_, _⊖_, _⊗_, float}
+use Rattle.sampling.specs.Photographs.{Photo, Pixel}
+use Rattle.sampling.specs.declared.Sampled.the-variants.{Luma, Outside}
+use Rattle.sampling.specs.declared.Spot.{Spot}
+use Rattle.sampling.specs.declared.Spot.the-variants.{Off, Edging, Among}
+use Rattle.sampling.specs.Sampling.{touched, blend, shade}
+use Rattle.sampling.specs.Marks.{mark, Shows}
+use Rattle.sampling.proofs.Pixels.{Each}
+
+-- a row of 32 bits times a stride of 32 bits fits 64 bits, with a column of 32 bits added
+pub row-most : (y stride : ℕ) → y ≤ 4294967295 → stride ≤ 4294967295 → y * stride ≤ 18446744065119617025
+row-most y stride p q = le-trans (mul-le-mul-right stride p) (mul-le-mul-left 4294967295 q)
+
+-- ---- four pixels
+
+pub four-marks : (w x0 y0 x1 y1 : ℕ) (fx fy : Float) (s : List ℕ) {s1 s2 s3 s4 : List ℕ}
+    → s1 ≡ set s (y0 * w + x0) 1 → s2 ≡ set s1 (y0 * w + x1) 1 → s3 ≡ set s2 (y1 * w + x0) 1 → s4 ≡ set s3 (y1 * w + x1) 1
+    → s4 ≡ mark w (touched (Among x0 y0 x1 y1 fx fy)) s
+unfolding mark touched
+four-marks w x0 y0 x1 y1 fx fy s e1 e2 e3 e4 = cc
+
+pub four-shades : (a b c d : ℕ) (fx fy : Float) {v00 v10 v01 v11 : Float} → v00 ≡ float a → v10 ≡ float b → v01 ≡ float c → v11 ≡ float d
+    → ((v00 ⊕ (v10 ⊖ v00) ⊗ fx) ⊕ ((v01 ⊕ (v11 ⊖ v01) ⊗ fx) ⊖ (v00 ⊕ (v10 ⊖ v00) ⊗ fx)) ⊗ fy) ≡ blend a b c d fx fy
+unfolding blend
+four-shades a b c d fx fy e1 e2 e3 e4 = rw (e1, e2, e3, e4)
+
+pub shown-luma : (p : Photo) (x0 y0 x1 y1 : ℕ) (fx fy : Float) {v : Float} → v ≡ blend (p x0 y0) (p x1 y0) (p x0 y1) (p x1 y1) fx fy → Luma v ≡ shade p (Among x0 y0 x1 y1 fx fy)
+unfolding shade
+shown-luma p x0 y0 x1 y1 fx fy e = ap Luma e
+
+-- ---- a sample that reads nothing
+
+module _ (p : Photo) (w : ℕ) (s : List ℕ) {at : Spot} where
+  pub shows-off : at ≡ Off → Shows p w at Outside s s
+  unfolding shade touched mark
+  shows-off e = rw e (record { answer = refl; marks = refl })
+
+  pub shows-edging : {v : ℕ} → at ≡ Edging v → Shows p w at (Luma (float v)) s s
+  unfolding shade touched mark
+  shows-edging e = rw e (record { answer = refl; marks = refl })
+
+-- ---- two photographs
+
+abbrev pub Same : Photo → Photo → Pixel → Type 0
+Same p q c = q (c .column) (c .row) ≡ p (c .column) (c .row)
+
+-- that agree on what a sample reads show the same there
+pub shade-same : (p q : Photo) (at : Spot) → Each (Same p q) (touched at) → shade q at ≡ shade p at
+unfolding shade touched
+shade-same p q Off h = refl
+shade-same p q (Edging v) h = refl
+shade-same p q (Among x0 y0 x1 y1 fx fy) h = rw (h .0, h .1 .0, h .1 .1 .0, h .1 .1 .1 .0)

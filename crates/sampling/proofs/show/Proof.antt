@@ -1,0 +1,46 @@
+-- `show` meets its contract: a case for each spot. Assumes nothing.
+use Rattle.sampling.proofs.Shades.{shows-off, shows-edging}
+use borrow.Author.Needs.{needs}
+use Rattle.sampling.proofs.show.Statement.{statement}
+use Rattle.sampling.proofs.show.Tie as tie
+
+enum-told : tie.Need-enum-told
+enum-told c = search needs
+
+enum-known-spot : tie.Need-enum-known-spot
+enum-known-spot c = search needs
+
+int-to-float-t14 : tie.Need-int-to-float-t14
+int-to-float-t14 c = search needs
+
+enum-known-spot-2 : tie.Need-enum-known-spot-2
+enum-known-spot-2 c = search needs
+
+blended-requires : tie.Need-blended-requires
+blended-requires c κs = search needs
+
+returns : tie.Need-returns
+returns c = shows-off _ _ _ (c .enum-told .given .1)
+
+returns-2 : tie.Need-returns-2
+returns-2 c = shows-edging _ _ _ (c .before .before .spot .given .1)
+
+same-length : tie.Need-same-length
+same-length c = search needs
+
+returns-3 : tie.Need-returns-3
+returns-3 c = rw (c .before .before .before .before .before .spot2 .given .1) (c .before .before .blended .ensures)
+
+pub show-spec : {M : Type 1} → statement M
+show-spec =
+    tie.close
+    (tie.spec
+    enum-told
+    enum-known-spot
+    int-to-float-t14
+    enum-known-spot-2
+    blended-requires
+    returns
+    returns-2
+    same-length
+    returns-3)

@@ -1,0 +1,4 @@
+-- What the contracts of `sampling` cite.
+pub mod Photographs
+pub mod Sampling
+pub mod Marks

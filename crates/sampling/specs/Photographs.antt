@@ -1,0 +1,47 @@
+-- A photograph: bytes by rows, and which are refused by 1 and 2. Definitions only.
+use Prim.Native.Nat.{ℕ, _+_, _-_, _*_}
+use mathlib.Core.Bool.{Bool, not, _&&_}
+use mathlib.Core.List.{List}
+use lib.Dec.{leb}
+use lib.ListN.{getD}
+use Rattle.number.specs.Numbers as number
+use Rattle.ieee.specs.Floats.{if_then_else_}
+
+-- what a photograph shows at a column and a row
+abbrev pub Photo : Type 0
+Photo = ℕ → ℕ → ℕ
+
+-- bytes by rows of `stride`; past their end a photograph is 0
+abbrev pub photo : List ℕ → ℕ → Photo
+photo bytes stride x y = getD bytes (y * stride + x) 0
+
+pub record Pixel : Type 0 where
+  pub column : ℕ
+  pub row : ℕ
+
+abbrev pub pixel : ℕ → ℕ → Pixel
+pixel x y = record { column = x; row = y }
+
+-- ---- entry checks 1 and 2
+
+unfoldable pub sized : ℕ → Bool
+sized n = leb 1 n && leb n 16384
+
+unfoldable pub goodSize : ℕ → ℕ → Bool
+goodSize w h = sized w && sized h
+
+-- of so many bytes
+unfoldable pub goodPhotograph : ℕ → ℕ → ℕ → ℕ → Bool
+goodPhotograph w h stride bytes = leb w stride && leb stride 65535 && leb ((h - 1) * stride + w) bytes
+
+-- the number of the first check that fails, and 0 where none does
+unfoldable pub photographNumber : ℕ → ℕ → ℕ → ℕ → ℕ
+photographNumber w h stride bytes =
+    if not (goodSize w h) then number.size else
+    if not (goodPhotograph w h stride bytes) then number.photograph else
+    number.answer
+
+-- all of the above, for a proof that computes with them: to unfold this is to unfold what its line names
+unfoldable pub opened : Unit {0}
+unfolding sized goodSize goodPhotograph photographNumber
+opened = tt
