@@ -1,0 +1,35 @@
+-- The count of samples: counting a and then b is counting a + b, and as long as 64 bits hold it the count is a sum. By induction on how many are counted.
+-- Assumes nothing.
+use mathlib.Core.Path.{_≡_, ap, _∙_}
+use Prim.Native.Nat.{ℕ, zero, suc, _+_, _≤_, _<_}
+use native.Mathlib.Nat.{zero-add, suc-add}
+use native.Mathlib.Omega.{arith}
+use borrow.Author.Tests.{lt-ltb, le-ltb}
+use Rattle.look.specs.declared.Meter.{Meter}
+use Rattle.look.specs.Meters.{tick, ticks}
+
+pub ticks-add : (a b : ℕ) (m : Meter) → ticks (a + b) m ≡ ticks b (ticks a m)
+unfolding ticks
+ticks-add zero b m = ap (λ (n : ℕ). ticks n m) (zero-add b)
+ticks-add (suc a) b m = ap (λ (n : ℕ). ticks n m) (suc-add a b) ∙ ticks-add a b (tick m)
+
+pub tick-below : (m : Meter) → m .tried < 18446744073709551615 → tick m .tried ≡ m .tried + 1
+unfolding tick
+tick-below m h = rw (lt-ltb (m .tried) 18446744073709551615 h, tick)
+
+-- a count that 64 bits hold is the number of samples
+pub ticks-count : (n : ℕ) (m : Meter) → m .tried + n ≤ 18446744073709551615 → ticks n m .tried ≡ m .tried + n
+unfolding ticks
+ticks-count zero m h = omega arith
+ticks-count (suc n) m h =
+    let one : tick m .tried ≡ m .tried + 1 = tick-below m (omega arith) in
+    let rest : ticks n (tick m) .tried ≡ tick m .tried + n = ticks-count n (tick m) (omega arith) in
+    omega (arith, one, rest)
+
+pub tick-one : (m : Meter) → m .tried < 18446744073709551615 → record { tried = m .tried + 1 } ≡ tick m
+unfolding tick
+tick-one m h = rw (lt-ltb (m .tried) 18446744073709551615 h, tick)
+
+pub tick-none : (m : Meter) → 18446744073709551615 ≤ m .tried → m ≡ tick m
+unfolding tick
+tick-none m h = rw (le-ltb (m .tried) 18446744073709551615 h, tick)

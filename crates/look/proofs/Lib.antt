@@ -1,0 +1,10 @@
+-- What holds of every tree of samples, and of every function that runs one.
+pub mod Counts
+pub mod Trees
+pub mod Steps
+pub mod Bounds
+pub mod Always
+pub mod Agreement
+pub mod Inside
+pub mod Sheets
+pub mod Demand3

@@ -1,0 +1,207 @@
+-- What the sheet and the copy of a run hold, and how the code comes to them: a cleared sheet that a run has marked is the sheet, the copy made after it is the copy,
+-- and bytes past width × height stay as they were. Why: a pixel of the picture has a place of its own below width × height, so a mark there says of no other
+-- pixel that it was read. Assumes nothing.
+use mathlib.Core.Path.{_≡_, refl, sym, ap, ap₂, _∙_, subst}
+use Prim.Native.Nat.{ℕ, zero, suc, _+_, _*_, _/_, _%_, _≤_, _<_, suc-le-suc}
+use native.Mathlib.Nat.{not-suc-le-zero, le-of-suc-le-suc, zero-lt-suc, mod-lt, div-lt-iff-lt-mul, mul-comm, le-trans, div-add-mod', le-refl}
+use native.Mathlib.Numerals.{add-one}
+use mathlib.Core.Bool.{Bool, true, false, _&&_, _||_}
+use mathlib.Core.List.{List, [], _∷_, _++_}
+use lib.Dec.{T, eqb, eqb-refl}
+use lib.ListN.{getD, length, set, drop, List·getD-append, length-set, replicate, length-replicate, getD-replicate}
+use lib.Seq.{set-append-left, getD-set-same, getD-set-other, ext-getD}
+use borrow.Author.Tests.{eqb-true, eqb-false}
+use Rattle.ieee.specs.Floats.{if_then_else_}
+use Rattle.sampling.specs.Photographs.{Photo, Pixel, pixel}
+use Rattle.sampling.specs.Marks.{mark}
+use Rattle.sampling.specs.declared.Scene.{Scene}
+use Rattle.sampling.proofs.Pixels.{Each, Inside, place-lt, place-column, place-row}
+use Rattle.look.specs.declared.Meter.{Meter}
+use Rattle.look.specs.Look.{Look, reads}
+use Rattle.look.specs.Run.{Runs}
+use Rattle.look.specs.Sheets.{isRead, bit, table, sheet, copy}
+
+-- ---- tables
+
+pub length-table : (n : ℕ) (f : ℕ → ℕ) → length (table n f) ≡ n
+length-table zero f = refl
+length-table (suc n) f = ap suc (length-table n (λ k. f (suc k)))
+
+pub getD-table : (n : ℕ) (f : ℕ → ℕ) (i d : ℕ) → i < n → getD (table n f) i d ≡ f i
+getD-table zero f i d h = absurd (not-suc-le-zero h)
+getD-table (suc n) f zero d h = refl
+getD-table (suc n) f (suc i) d h = getD-table n (λ k. f (suc k)) i d (le-of-suc-le-suc h)
+
+pub table-ext : (n : ℕ) (f g : ℕ → ℕ) → ((i : ℕ) → i < n → f i ≡ g i) → table n f ≡ table n g
+table-ext zero f g h = refl
+table-ext (suc n) f g h = λ j. h zero (zero-lt-suc n) j ∷ table-ext n (λ k. f (suc k)) (λ k. g (suc k)) (λ i b. h (suc i) (suc-le-suc b)) j
+
+-- a loop that writes a table over the front of d: one entry more
+pub table-more : (n : ℕ) (f : ℕ → ℕ) (d : List ℕ) → n < length d → set (table n f ++ drop n d) n (f n) ≡ table (n + 1) f ++ drop (n + 1) d
+table-more n f d l = subst (λ (k : ℕ). set (table n f ++ drop n d) n (f n) ≡ table k f ++ drop k d) (sym (add-one n)) (go n f d l)
+  where
+    go : (n : ℕ) (f : ℕ → ℕ) (d : List ℕ) → n < length d → set (table n f ++ drop n d) n (f n) ≡ table (suc n) f ++ drop (suc n) d
+    go n f [] l = absurd (not-suc-le-zero l)
+    go zero f (x ∷ d) l = refl
+    go (suc n) f (x ∷ d) l = ap (λ (t : List ℕ). f 0 ∷ t) (go n (λ k. f (suc k)) d (le-of-suc-le-suc l))
+
+-- ---- whether a pixel is in a list
+
+pub is-true : (b : Bool) → T b → b ≡ true
+is-true true h = refl
+is-true false h = absurd h
+
+or-left : (a b : Bool) → T a → T (a || b)
+or-left true b h = tt
+or-left false b h = absurd h
+
+or-right : (a b : Bool) → T b → T (a || b)
+or-right true b h = tt
+or-right false b h = h
+
+and-both : (a b : Bool) → T a → T b → T (a && b)
+and-both true b h k = k
+and-both false b h k = h
+
+-- what holds of every pixel of the picture that is in a list holds of each of the list
+pub read-each : (P : Pixel → Type 0) (w h : ℕ) (cs : List Pixel) → Each (Inside w h) cs
+    → ((x y : ℕ) → x < w → y < h → T (isRead x y cs) → P (pixel x y)) → Each P cs
+read-each P w h [] b f = tt
+read-each P w h (c ∷ cs) b f = (
+  f (c .column) (c .row) (b .0 .across) (b .0 .down)
+      (or-left (eqb (c .column) (c .column) && eqb (c .row) (c .row)) (isRead (c .column) (c .row) cs)
+      (and-both (eqb (c .column) (c .column)) (eqb (c .row) (c .row)) (eqb-refl (c .column)) (eqb-refl (c .row)))),
+  read-each P w h cs (b .1) (λ x y hx hy r. f x y hx hy (or-right (eqb x (c .column) && eqb y (c .row)) (isRead x y cs) r)),
+)
+
+-- ---- what they hold at a place
+
+pub sheet-at : (w h : ℕ) (rs : List Pixel) (x y : ℕ) → x < w → y < h → getD (sheet w h rs) (y * w + x) 0 ≡ bit (isRead x y rs)
+unfolding sheet
+sheet-at w h rs x y hx hy =
+    getD-table (w * h) (λ i. bit (isRead (i % w) (i / w) rs)) (y * w + x) 0 (place-lt w h x y hx hy)
+    ∙ rw (place-column w x y hx, place-row w x y hx)
+
+pub copy-at : (w h : ℕ) (p : Photo) (rs : List Pixel) (x y : ℕ) → x < w → y < h → getD (copy w h p rs) (y * w + x) 0 ≡ (if isRead x y rs then p x y else 0)
+unfolding copy
+copy-at w h p rs x y hx hy =
+    getD-table (w * h) (λ i. if isRead (i % w) (i / w) rs then p (i % w) (i / w) else 0) (y * w + x) 0 (place-lt w h x y hx hy)
+    ∙ rw (place-column w x y hx, place-row w x y hx)
+
+pub length-sheet : (w h : ℕ) (rs : List Pixel) → length (sheet w h rs) ≡ w * h
+unfolding sheet
+length-sheet w h rs = length-table (w * h) (λ i. bit (isRead (i % w) (i / w) rs))
+
+pub length-copy : (w h : ℕ) (p : Photo) (rs : List Pixel) → length (copy w h p rs) ≡ w * h
+unfolding copy
+length-copy w h p rs = length-table (w * h) (λ i. if isRead (i % w) (i / w) rs then p (i % w) (i / w) else 0)
+
+row-lt : (w h i : ℕ) → 0 < w → i < w * h → i / w < h
+row-lt w h i pos b = div-lt-iff-lt-mul pos .1 (subst (λ (k : ℕ). i < k) (mul-comm w h) b)
+
+-- two copies made after one list are equal where the photographs agree on it
+pub copy-ext : (w h : ℕ) (p q : Photo) (rs : List Pixel) → 0 < w
+    → ((x y : ℕ) → x < w → y < h → T (isRead x y rs) → q x y ≡ p x y) → copy w h q rs ≡ copy w h p rs
+unfolding copy
+copy-ext w h p q rs pos f =
+    table-ext (w * h) (λ i. if isRead (i % w) (i / w) rs then q (i % w) (i / w) else 0) (λ i. if isRead (i % w) (i / w) rs then p (i % w) (i / w) else 0)
+    (λ i b. pick (isRead (i % w) (i / w) rs) (q (i % w) (i / w)) (p (i % w) (i / w)) (λ r. f (i % w) (i / w) (mod-lt i pos) (row-lt w h i pos b) r))
+  where
+    pick : (t : Bool) (a c : ℕ) → (T t → a ≡ c) → (if t then a else 0) ≡ (if t then c else 0)
+    pick true a c g = g tt
+    pick false a c g = refl
+
+-- ---- the sheet as a run writes it
+
+pub length-mark : (w : ℕ) (a : List Pixel) (s : List ℕ) → length (mark w a s) ≡ length s
+unfolding mark
+length-mark w [] s = refl
+length-mark w (c ∷ a) s = length-mark w a (set s (c .row * w + c .column) 1) ∙ length-set s (c .row * w + c .column) 1
+
+mark-at : (w : ℕ) (a : List Pixel) (s : List ℕ) (h x y : ℕ) → Each (Inside w h) a → x < w → y < h → w * h ≤ length s
+    → getD (mark w a s) (y * w + x) 0 ≡ (if isRead x y a then 1 else getD s (y * w + x) 0)
+unfolding mark
+mark-at w [] s h x y ha hx hy hl = refl
+mark-at w (c ∷ a) s h x y ha hx hy hl =
+    mark-at w a (set s (c .row * w + c .column) 1) h x y (ha .1) hx hy (subst (λ (n : ℕ). w * h ≤ n) (sym (length-set s (c .row * w + c .column) 1)) hl)
+    ∙ settle (isRead x y a) (eqb x (c .column)) refl (eqb y (c .row)) refl
+  where
+    settle : (b : Bool) (t : Bool) → eqb x (c .column) ≡ t → (u : Bool) → eqb y (c .row) ≡ u
+        → (if b then 1 else getD (set s (c .row * w + c .column) 1) (y * w + x) 0) ≡ (if (t && u) || b then 1 else getD s (y * w + x) 0)
+    settle true true et true eu = refl
+    settle true true et false eu = refl
+    settle true false et u eu = refl
+    settle false true et true eu =
+        ap (λ (i : ℕ). getD (set s (c .row * w + c .column) 1) i 0) (ap₂ (λ (a b : ℕ). a * w + b) (eqb-true y (c .row) eu) (eqb-true x (c .column) et))
+        ∙ getD-set-same s (c .row * w + c .column) 1 0 (le-trans (place-lt w h (c .column) (c .row) (ha .0 .across) (ha .0 .down)) hl)
+    settle false true et false eu =
+        getD-set-other s (c .row * w + c .column) (y * w + x) 1 0
+        (λ q. eqb-false y (c .row) eu (sym (place-row w x y hx) ∙ ap (λ (i : ℕ). i / w) q ∙ place-row w (c .column) (c .row) (ha .0 .across)))
+    settle false false et u eu =
+        getD-set-other s (c .row * w + c .column) (y * w + x) 1 0
+        (λ q. eqb-false x (c .column) et (sym (place-column w x y hx) ∙ ap (λ (i : ℕ). i % w) q ∙ place-column w (c .column) (c .row) (ha .0 .across)))
+
+-- a sheet of zeros, marked
+mark-zeros : (w h : ℕ) (a : List Pixel) → 0 < w → Each (Inside w h) a → mark w a (replicate (w * h) 0) ≡ sheet w h a
+unfolding sheet
+mark-zeros w h a pos ha =
+    ext-getD 0 (mark w a (replicate (w * h) 0)) (sheet w h a) (long ∙ sym (length-table (w * h) (λ i. bit (isRead (i % w) (i / w) a))))
+    (λ i b. let k : i < w * h = subst (λ (n : ℕ). i < n) long b in
+    ap (λ (n : ℕ). getD (mark w a (replicate (w * h) 0)) n 0) (sym (div-add-mod' i w))
+    ∙ mark-at w a (replicate (w * h) 0) h (i % w) (i / w) ha (mod-lt i pos) (row-lt w h i pos k) (subst (λ (n : ℕ). w * h ≤ n) (sym (length-replicate (w * h) 0)) (le-refl (w * h)))
+    ∙ ap (λ (z : ℕ). if isRead (i % w) (i / w) a then 1 else z) (ap (λ (n : ℕ). getD (replicate (w * h) 0) n 0) (div-add-mod' i w) ∙ getD-replicate (w * h) i 0 0 k)
+    ∙ as-bit (isRead (i % w) (i / w) a)
+    ∙ sym (getD-table (w * h) (λ i. bit (isRead (i % w) (i / w) a)) i 0 k))
+  where
+    long : length (mark w a (replicate (w * h) 0)) ≡ w * h
+    long = length-mark w a (replicate (w * h) 0) ∙ length-replicate (w * h) 0
+
+    as-bit : (b : Bool) → (if b then 1 else 0) ≡ bit b
+    as-bit true = refl
+    as-bit false = refl
+
+-- a tail that no pixel reaches stays
+mark-append : (w h : ℕ) (a : List Pixel) (s t : List ℕ) → Each (Inside w h) a → w * h ≤ length s → mark w a (s ++ t) ≡ mark w a s ++ t
+unfolding mark
+mark-append w h [] s t ha hl = refl
+mark-append w h (c ∷ a) s t ha hl =
+    let i = c .row * w + c .column in
+    ap (λ (l : List ℕ). mark w a l) (set-append-left s t i 1 (le-trans (place-lt w h (c .column) (c .row) (ha .0 .across) (ha .0 .down)) hl))
+    ∙ mark-append w h a (set s i 1) t (ha .1) (subst (λ (n : ℕ). w * h ≤ n) (sym (length-set s i 1)) hl)
+
+-- a cleared sheet, marked
+pub mark-cleared : (w h : ℕ) (a : List Pixel) (t : List ℕ) → 0 < w → Each (Inside w h) a → mark w a (replicate (w * h) 0 ++ t) ≡ sheet w h a ++ t
+mark-cleared w h a t pos ha =
+    mark-append w h a (replicate (w * h) 0) t ha (subst (λ (n : ℕ). w * h ≤ n) (sym (length-replicate (w * h) 0)) (le-refl (w * h)))
+    ∙ ap (λ (l : List ℕ). l ++ t) (mark-zeros w h a pos ha)
+
+-- ---- the copy as it is made after the sheet: the photograph's bytes where the sheet has a 1
+
+pub blank-copy : (w h : ℕ) (p : Photo) (a : List Pixel) (t : List ℕ) → table (w * h) (λ i. if eqb (getD (sheet w h a ++ t) i 0) 1 then p (i % w) (i / w) else 0) ≡ copy w h p a
+unfolding sheet copy
+blank-copy w h p a t =
+    table-ext (w * h) _ _
+    (λ i b. ap (λ (z : ℕ). if eqb z 1 then p (i % w) (i / w) else 0)
+    (List·getD-append (table (w * h) (λ k. bit (isRead (k % w) (k / w) a))) t 0 i (subst (λ (n : ℕ). i < n) (sym (length-table (w * h) _)) b)
+    ∙ getD-table (w * h) (λ k. bit (isRead (k % w) (k / w) a)) i 0 b)
+    ∙ settle (isRead (i % w) (i / w) a) (p (i % w) (i / w)))
+  where
+    settle : (b : Bool) (v : ℕ) → (if eqb (bit b) 1 then v else 0) ≡ (if b then v else 0)
+    settle true v = refl
+    settle false v = refl
+
+-- ---- a marking run: the sheet is cleared, the step runs, the copy is made after the sheet
+
+module _ {A : Type 0} (e : Scene) (p : Photo) (t : Look A) (pos : 0 < e .width) (safe : Each (Inside (e .width) (e .height)) (reads e p t)) where
+  pub marked-sheet : {r : A} (s : List ℕ) {s₁ s₂ : List ℕ} {m m′ : Meter} → s₁ ≡ replicate (e .width * e .height) 0 ++ drop (e .width * e .height) s → Runs e p t r s₁ s₂ m m′
+      → s₂ ≡ sheet (e .width) (e .height) (reads e p t) ++ drop (e .width * e .height) s
+  marked-sheet s cleared run =
+      run .marks ∙ ap (λ (l : List ℕ). mark (e .width) (reads e p t) l) cleared ∙ mark-cleared (e .width) (e .height) (reads e p t) (drop (e .width * e .height) s) pos safe
+
+  pub blanked-copy : (s c : List ℕ) {s₂ c′ : List ℕ} → s₂ ≡ sheet (e .width) (e .height) (reads e p t) ++ drop (e .width * e .height) s
+      → c′ ≡ table (e .width * e .height) (λ i. if eqb (getD s₂ i 0) 1 then p (i % e .width) (i / e .width) else 0) ++ drop (e .width * e .height) c
+      → c′ ≡ copy (e .width) (e .height) p (reads e p t) ++ drop (e .width * e .height) c
+  blanked-copy s c marked made =
+      made
+      ∙ ap (λ (l : List ℕ). table (e .width * e .height) (λ i. if eqb (getD l i 0) 1 then p (i % e .width) (i / e .width) else 0) ++ drop (e .width * e .height) c) marked
+      ∙ ap (λ (l : List ℕ). l ++ drop (e .width * e .height) c) (blank-copy (e .width) (e .height) p (reads e p t) (drop (e .width * e .height) s))

@@ -1,0 +1,54 @@
+// A sample of the refinement: through the camera, its pixels marked, and counted.
+ghost use mathlib.Core.Path.{_≡_};
+ghost use Rattle.sampling.specs.Photographs.{photo};
+ghost use Rattle.look.specs.Meters.{tick};
+ghost use Rattle.look.specs.Look.{look};
+ghost use Rattle.look.specs.Run.{Runs};
+use pixel::SourcePixel;
+use sampling::Sampled;
+use sampling::Scene;
+
+// What sampling carries along: how many samples were tried.
+pub struct Meter {
+    pub tried: u64,
+}
+
+// What a sample shows, and what sampling carries along.
+pub struct Shown {
+    pub sampled: Sampled,
+    pub meter: Meter,
+}
+
+impl Meter {
+    // One more sample. At the highest number the count stays.
+    pub fn ticked(self) -> Meter
+        ensures { λ r. ⌜ r ≡ tick self ⌝ }
+    {
+        if self.tried < 18446744073709551615 {
+            return Meter {
+                tried: self.tried + 1,
+            };
+        }
+        self
+    }
+}
+
+// A sample in a scene, its pixels marked.
+pub fn sample_source(
+    bytes: &[u8],
+    stride: u32,
+    scene: Scene,
+    sheet: &mut [u8],
+    meter: Meter,
+    p: SourcePixel,
+) -> Shown
+    ensures { λ r. ⌜ Runs scene (photo (now (bytes .entry)) stride) (look p) (r .sampled) (now (sheet .entry)) (now (sheet .exit)) meter (r .meter) ⌝ }
+{
+    let spot = sampling::source_spot(scene, p);
+    let sampled = sampling::show(bytes, stride, scene.width, sheet, spot);
+    let counted = meter.ticked();
+    Shown {
+        sampled,
+        meter: counted,
+    }
+}
