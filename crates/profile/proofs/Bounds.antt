@@ -1,0 +1,65 @@
+-- An edge point takes at most 21 samples: seven for each of three passes. Assumes nothing.
+use mathlib.Core.Path.{_≡_, subst}
+use Prim.Native.Nat.{ℕ, zero, suc, _+_, _*_, _≤_}
+use native.Mathlib.Omega.{arith}
+use mathlib.Core.Bool.{Bool}
+use mathlib.Core.List.{List, [], _∷_, _++_}
+use mathlib.Core.Option.{Option, none, some}
+use lib.Ieee.{Float}
+use Rattle.ieee.specs.Floats.{_⊖_, float, f0, f3}
+use Rattle.sampling.specs.Photographs.{Photo}
+use Rattle.sampling.specs.declared.Scene.{Scene}
+use Rattle.consts.specs.declared.Settings.{Settings}
+use Rattle.pixel.specs.declared.SourcePixel.{SourcePixel}
+use Rattle.sampling.specs.declared.Sampled.{Sampled}
+use Rattle.sampling.specs.declared.Sampled.the-variants.{Luma, Outside}
+use Rattle.look.specs.Look.{Look, done, taken}
+use Rattle.look.proofs.Bounds.{AtMost, taken-most, most-done, most-sample, most-bind}
+use Rattle.pixel.specs.Pixels.{edgePoint}
+use Rattle.pixel.specs.declared.Direction.{Direction}
+use Rattle.pixel.specs.declared.EdgePoint.{EdgePoint}
+use Rattle.profile.specs.declared.Located.{Located}
+use Rattle.profile.specs.declared.Located.the-variants.{Found, NoEdge}
+use Rattle.profile.specs.Profile.{stepped, gather, profile, pass, passed, projection, aitken, andThen, _>>=_, passes, localize}
+
+module _ (normal : Direction) (step : Float) where
+  rest : SourcePixel → ℕ → ℕ → List Float → Sampled → Look (Option (List Float))
+  rest c n k got r = elim r [ Luma v ↦ gather normal step c n (suc k) (got ++ v ∷ []) | Outside ↦ done none ]
+
+  gather-most : (c : SourcePixel) (n k : ℕ) (got : List Float) → AtMost n (gather normal step c n k got)
+  unfolding gather rest
+  gather-most c zero k got = most-done 0 (some got)
+  gather-most c (suc n) k got =
+      most-sample n (stepped normal step c (float k ⊖ f3)) (rest c n k got) (each (λ v. gather-most c n (suc k) (got ++ v ∷ [])))
+    where
+      each : ((v : Float) → AtMost n (gather normal step c n (suc k) (got ++ v ∷ []))) → (r : Sampled) → AtMost n (rest c n k got r)
+      each f (Luma v) = f v
+      each f Outside = most-done {A = Option (List Float)} n none
+
+  module _ (settings : Settings) (inverted differs : Bool) where
+    pass-most : (c : SourcePixel) → AtMost 7 (pass settings normal step inverted differs c)
+    unfolding pass profile
+    pass-most c =
+        most-bind 7 0 (profile normal step c) (λ s. done (passed settings normal step inverted differs c s)) (gather-most c 7 0 [])
+        (λ s. most-done 0 (passed settings normal step inverted differs c s))
+
+    then-most : (n : ℕ) (f : EdgePoint → Look Located) → ((q : EdgePoint) → AtMost n (f q)) → (r : Located) → AtMost n (andThen f r)
+    unfolding andThen
+    then-most n f h NoEdge = most-done n NoEdge
+    then-most n f h (Found q) = h q
+
+    sevens : (n : ℕ) → 7 + 7 * n ≡ 7 * suc n
+    sevens n = omega arith
+
+    passes-most : (n : ℕ) (p : EdgePoint) (xs : List Float) → AtMost (7 * n) (passes settings normal step inverted differs n p xs)
+    unfolding passes _>>=_
+    passes-most zero p xs = most-done 0 (aitken normal step p xs)
+    passes-most (suc n) p xs =
+        let f : EdgePoint → Look Located = λ q. passes settings normal step inverted differs n q (xs ++ projection normal (q .pos) ∷ []) in
+        subst (λ (l : ℕ). AtMost l (passes settings normal step inverted differs (suc n) p xs)) (sevens n)
+        (most-bind 7 (7 * n) (pass settings normal step inverted differs (p .pos)) (andThen f) (pass-most (p .pos))
+        (then-most (7 * n) f (λ q. passes-most n q (xs ++ projection normal (q .pos) ∷ []))))
+
+    pub at-most-21 : (e : Scene) (p : Photo) (coarse : SourcePixel) → taken e p (localize settings normal step inverted differs coarse) ≤ 21
+    unfolding localize
+    at-most-21 e p coarse = taken-most e p 21 (localize settings normal step inverted differs coarse) (passes-most 3 (edgePoint coarse f0) [])

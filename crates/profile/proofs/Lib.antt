@@ -1,0 +1,6 @@
+-- What holds of an edge point.
+pub mod Peaks
+pub mod Gather
+pub mod Passes
+pub mod Bounds
+pub mod Answers

@@ -1,0 +1,203 @@
+-- `localize` meets its contract. The invariant of each loop is what is left of the tree: of the profile after k samples, of the point after so many
+-- passes. The ways out of the passes, by the test, by a rejected sample and by a profile without a peak, meet behind them. Assumes nothing.
+use Prim.Native.Nat.{ℕ, _≤_, _<_, _-_}
+use mathlib.Core.Path.{_≡_, refl, _∙_, ap}
+use mathlib.Core.Logic.{⊎-elim}
+use mathlib.Core.List.{[]}
+use native.Mathlib.Omega.{arith}
+use borrow.Author.Needs.{needs}
+use lib.ListN.{length, length-set}
+use Rattle.sampling.specs.Photographs.{photo}
+use Rattle.look.specs.Run.{Runs}
+use Rattle.profile.specs.declared.Located.{Located}
+use Rattle.profile.specs.declared.Located.the-variants.{NoEdge}
+use Rattle.profile.specs.Profile.{aitken, localize}
+use Rattle.profile.proofs.Gather.{Left, begun, went-on, broke-off, ended}
+use Rattle.profile.proofs.Passes.{Passed, none-yet, pass-broke, no-peak, pass-done, all-passed}
+use Rattle.profile.proofs.localize.Statement.{statement}
+use Rattle.profile.proofs.localize.Tie as tie
+
+abbrev Inv-loop : tie.InvT-loop
+Inv-loop settings bytes stride scene sheet₀ normal step inverted inward-differs meter₀ point samples₀ xs pass center k₀ sheet meter samples k =
+    (k ≤ 7) × (length samples ≡ 7) × (length sheet ≡ length sheet₀)
+    × Left scene (photo bytes stride) normal step center sheet₀ meter₀ k samples sheet meter
+
+abbrev μ-loop : tie.MeasureT-loop
+μ-loop settings bytes stride scene sheet₀ normal step inverted inward-differs meter₀ point samples₀ xs pass center k₀ sheet meter samples k =
+    7 - k
+
+abbrev Inv-passes : tie.InvT-passes
+Inv-passes settings bytes stride scene sheet₀ normal step inverted inward-differs meter₀ point₀ samples₀ xs₀ pass₀ sheet meter point samples xs pass =
+    (pass ≤ 3) × (length samples ≡ 7) × (length xs ≡ 3) × (length sheet ≡ length sheet₀)
+    × Passed scene (photo bytes stride) settings normal step inverted inward-differs point₀ sheet₀ meter₀ pass point xs sheet meter
+
+abbrev μ-passes : tie.MeasureT-passes
+μ-passes settings bytes stride scene sheet₀ normal step inverted inward-differs meter₀ point₀ samples₀ xs₀ pass₀ sheet meter point samples xs pass =
+    3 - pass
+
+passes-holds : tie.Need-passes-holds Inv-loop μ-loop Inv-passes μ-passes
+passes-holds c = (omega arith, search needs, search needs, refl, none-yet _ _ _ _ _ _ _ _ _ _ [])
+
+loop-holds : tie.Need-loop-holds Inv-loop μ-loop Inv-passes μ-passes
+loop-holds c = (omega arith, c .before .before .passes .inv .1, refl, begun _ _ _ _ _ _ _ [])
+
+int-to-float-stepped : tie.Need-int-to-float-stepped Inv-loop μ-loop Inv-passes μ-passes
+int-to-float-stepped c = search needs
+
+stepped-requires : tie.Need-stepped-requires Inv-loop μ-loop Inv-passes μ-passes
+stepped-requires c κs = search needs
+
+sample-source-requires : tie.Need-sample-source-requires Inv-loop μ-loop Inv-passes μ-passes
+sample-source-requires c κs = search needs
+
+enum-known-sampled : tie.Need-enum-known-sampled Inv-loop μ-loop Inv-passes μ-passes
+enum-known-sampled c = search needs
+
+enum-told : tie.Need-enum-told Inv-loop μ-loop Inv-passes μ-passes
+enum-told c = search needs
+
+mul-samples : tie.Need-mul-samples Inv-loop μ-loop Inv-passes μ-passes
+mul-samples c = omega arith
+
+array-write-samples : tie.Need-array-write-samples Inv-loop μ-loop Inv-passes μ-passes
+array-write-samples c = omega arith
+
+add-k : tie.Need-add-k Inv-loop μ-loop Inv-passes μ-passes
+add-k c = omega arith
+
+loop-less : tie.Need-loop-less Inv-loop μ-loop Inv-passes μ-passes
+loop-less c = omega arith
+
+loop-again : tie.Need-loop-again Inv-loop μ-loop Inv-passes μ-passes
+loop-again c = let inv = c .before .before .before .before .before .before .before .before .before .before .before .loop .inv in (
+  omega arith,
+  simp length-set (inv .1),
+  c .before .before .before .before .before .before .sample-source .kept .1 .1 .1 .0 ∙ inv .2,
+  went-on _ _ _ _ _ _ (omega arith) (inv .1) (c .before .sampled .given .1) (inv .3) (c .before .before .before .before .before .before .before .before .stepped .ensures) (c .before .before .before .before .before .before .sample-source .ensures),
+)
+
+find-peak-requires : tie.Need-find-peak-requires Inv-loop μ-loop Inv-passes μ-passes
+find-peak-requires c κs = search needs
+
+enum-known-peak : tie.Need-enum-known-peak Inv-loop μ-loop Inv-passes μ-passes
+enum-known-peak c = search needs
+
+enum-told-2 : tie.Need-enum-told-2 Inv-loop μ-loop Inv-passes μ-passes
+enum-told-2 c = search needs
+
+stepped-requires-2 : tie.Need-stepped-requires-2 Inv-loop μ-loop Inv-passes μ-passes
+stepped-requires-2 c κs = search needs
+
+projection-requires : tie.Need-projection-requires Inv-loop μ-loop Inv-passes μ-passes
+projection-requires c κs = search needs
+
+mul-xs : tie.Need-mul-xs Inv-loop μ-loop Inv-passes μ-passes
+mul-xs c = omega arith
+
+array-write-xs : tie.Need-array-write-xs Inv-loop μ-loop Inv-passes μ-passes
+array-write-xs c = omega arith
+
+add-pass : tie.Need-add-pass Inv-loop μ-loop Inv-passes μ-passes
+add-pass c = omega arith
+
+passes-less : tie.Need-passes-less Inv-loop μ-loop Inv-passes μ-passes
+passes-less c = omega arith
+
+passes-again : tie.Need-passes-again Inv-loop μ-loop Inv-passes μ-passes
+passes-again c = let i = c .before .before .before .before .before .before .before .loop .inv in
+    let inv = c .before .before .before .before .before .before .before .before .before .before .passes .inv in (
+      omega arith,
+      i .1,
+      simp length-set (inv .2),
+      i .2 ∙ inv .3,
+      pass-done _ _ _ _ _ _ _ _ _ _ (omega arith) (inv .2) (inv .4) (ended _ _ _ _ _ (i .0) (omega arith) (i .1) (i .3))
+          (c .before .before .before .before .before .find-peak .ensures) (c .before .before .before .peak .given .1) (c .before .stepped2 .ensures) (c .projection .ensures),
+    )
+
+-- ---- where the ways out of the passes meet
+
+never : {n : ℕ} → n < 3 → 3 ≤ n → ⊥
+never a b = omega arith
+
+met-long : (c : tie.Left-passes Inv-loop μ-loop Inv-passes μ-passes) → length (c .passes-test .sheet) ≡ length (c .before .before .before .before .args .sheet .now)
+met-long c =
+    ⊎-elim (λ w. ap length (w .1) ∙ c .before .passes .inv .3)
+    (⊎-elim (λ w. ap length (w .13) ∙ w .7 .kept .1 .1 .1 .0 ∙ w .2 .inv .2 ∙ c .before .passes .inv .3)
+    (λ w. ap length (w .7) ∙ w .2 .inv .2 ∙ c .before .passes .inv .3))
+    (c .passes-test .came)
+
+-- the point ends in r, with sheet and meter as they are there
+abbrev Ends : (c : tie.Left-passes Inv-loop μ-loop Inv-passes μ-passes) → Located → Type 0
+Ends c r =
+    let a = c .before .before .before .before .args in
+    Runs (a .scene) (photo (a .bytes .now) (a .stride)) (localize (a .settings) (a .normal) (a .step) (a .inverted) (a .inward-differs) (a .coarse)) r
+    (a .sheet .now) (c .passes-test .sheet) (a .meter) (c .passes-test .meter)
+
+met-broken : (c : tie.Left-passes Inv-loop μ-loop Inv-passes μ-passes) → c .before .passes .pass < 3 → Ends c NoEdge
+unfolding localize
+met-broken c l =
+    ⊎-elim (λ w. absurd (never l (w .0 .left)))
+    (⊎-elim (λ w. rw (w .13, w .14) (pass-broke _ _ _ _ _ _ _ _ _ _ (w .0 .taken) (c .before .passes .inv .4)
+    (broke-off _ _ _ _ _ _ (w .3 .taken) (w .12 .given .1) (w .2 .inv .3) (w .5 .ensures) (w .7 .ensures))))
+    (λ w. rw (w .7, w .8) (no-peak _ _ _ _ _ _ _ _ _ _ (w .0 .taken) (c .before .passes .inv .4)
+    (ended _ _ _ _ _ (w .2 .inv .0) (w .3 .left) (w .2 .inv .1) (w .2 .inv .3)) (w .4 .ensures) (w .6 .given .1))))
+    (c .passes-test .came)
+
+met-whole : (c : tie.Left-passes Inv-loop μ-loop Inv-passes μ-passes) → 3 ≤ c .before .passes .pass → {r : Located}
+    → r ≡ aitken (c .before .before .before .before .args .normal) (c .before .before .before .before .args .step) (c .before .passes .point) (c .before .passes .xs) → Ends c r
+unfolding localize
+met-whole c l h =
+    ⊎-elim (λ w. rw (w .1, w .2) (all-passed _ _ _ _ _ _ _ _ _ _ (c .before .passes .inv .0) l (c .before .passes .inv .2) (c .before .passes .inv .4) h))
+    (⊎-elim (λ w. absurd (never (w .0 .taken) l)) (λ w. absurd (never (w .0 .taken) l)))
+    (c .passes-test .came)
+
+same-length : tie.Need-same-length Inv-loop μ-loop Inv-passes μ-passes
+same-length c = met-long (c .before)
+
+returns : tie.Need-returns Inv-loop μ-loop Inv-passes μ-passes
+returns c = met-broken (c .before) (omega arith)
+
+aitken-requires : tie.Need-aitken-requires Inv-loop μ-loop Inv-passes μ-passes
+aitken-requires c κs = search needs
+
+same-length-2 : tie.Need-same-length-2 Inv-loop μ-loop Inv-passes μ-passes
+same-length-2 c = met-long (c .before .before)
+
+returns-2 : tie.Need-returns-2 Inv-loop μ-loop Inv-passes μ-passes
+returns-2 c = met-whole (c .before .before) (omega arith) (c .aitken .ensures)
+
+pub localize-spec : {M : Type 1} → statement M
+localize-spec =
+    tie.close
+    (tie.spec
+    Inv-loop
+    μ-loop
+    Inv-passes
+    μ-passes
+    passes-holds
+    loop-holds
+    int-to-float-stepped
+    stepped-requires
+    sample-source-requires
+    enum-known-sampled
+    enum-told
+    mul-samples
+    array-write-samples
+    add-k
+    loop-less
+    loop-again
+    find-peak-requires
+    enum-known-peak
+    enum-told-2
+    stepped-requires-2
+    projection-requires
+    mul-xs
+    array-write-xs
+    add-pass
+    passes-less
+    passes-again
+    same-length
+    returns
+    aitken-requires
+    same-length-2
+    returns-2)
