@@ -1,0 +1,42 @@
+-- What the functions below `fit_edge` ask of the lists that they are lent, and say of the places in them. Definitions only.
+use Prim.Native.Nat.{ℕ, _<_, _≤_}
+use mathlib.Core.Path.{_≡_}
+use mathlib.Core.Bool.{true, false}
+use mathlib.Core.List.{List}
+use lib.ListN.{length, take}
+use lib.Ieee.{Float}
+use Rattle.ieee.specs.Floats.{_≺_}
+use Rattle.consts.specs.Consts.{room}
+use Rattle.line.specs.Sums.{at}
+use Rattle.fit.specs.Fit.{kept}
+
+-- as many x as y and weights, and no more than an array holds
+pub record Paired (xs ys ws : List Float) : Type 0 where
+  pub ys-too : length ys ≡ length xs
+  pub weights-too : length ws ≡ length xs
+  pub hold : length xs ≤ room
+
+-- p is where the value at i belongs among those before it: behind those that it is not below
+pub record Place (values : List Float) (i p : ℕ) : Type 0 where
+  pub within : p ≤ i
+  pub behind : (k : ℕ) → k < p → (at values i ≺ at values k) ≡ false
+  pub ahead : p < i → (at values i ≺ at values p) ≡ true
+
+-- the first n of `out` are those of xs whose residual is at most the threshold
+pub record Compacted (most : Float) (rs xs out : List Float) (n : ℕ) : Type 0 where
+  pub few : n ≤ length xs
+  pub front : take n out ≡ kept most rs xs
+
+-- n is the lesser of the two
+pub record Lesser (a b n : ℕ) : Type 0 where
+  pub under-a : n ≤ a
+  pub under-b : n ≤ b
+  pub met : n < a → n < b → ⊥
+
+-- n is the least of the four
+pub record Least (a b c d n : ℕ) : Type 0 where
+  pub under-a : n ≤ a
+  pub under-b : n ≤ b
+  pub under-c : n ≤ c
+  pub under-d : n ≤ d
+  pub met : n < a → n < b → n < c → n < d → ⊥

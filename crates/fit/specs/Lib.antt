@@ -1,0 +1,3 @@
+-- What the contracts of `fit` cite.
+pub mod Fit
+pub mod Lent
