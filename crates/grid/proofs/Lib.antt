@@ -1,0 +1,4 @@
+-- The laws that the proofs of `grid` cite.
+pub mod Modules
+pub mod Candidates
+pub mod Thinning

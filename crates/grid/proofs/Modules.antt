@@ -1,0 +1,34 @@
+-- Where a module lies among the bytes, and the first n modules one after another. A place of 32-bit numbers fits 64 bits by its factors;
+-- what is left of the first n is the next one and what is left behind it. Assumes nothing.
+use mathlib.Core.Path.{_≡_}
+use Prim.Native.Nat.{ℕ, suc, _+_, _-_, _*_, _≤_, _<_}
+use native.Mathlib.Nat.{mul-le-mul, sub-zero}
+use native.Mathlib.Numerals.{add-one}
+use native.Mathlib.Omega.{arith}
+use mathlib.Core.Bool.{true, _&&_}
+use mathlib.Core.List.{List}
+use lib.Dec.{leb}
+use lib.ListN.{length, getD, drop}
+use lib.Seq.{drop-cons}
+use Rattle.grid.specs.Grids.{bits}
+
+-- a row of 32 bits times a dimension of 32 bits leaves room for a column
+pub row-most : (row dim : ℕ) → row ≤ 4294967295 → dim ≤ 4294967295 → row * dim ≤ 18446744065119617025
+row-most row dim p q = mul-le-mul p q
+
+one-less : (n i : ℕ) → i < n → n - i ≡ suc (n - (i + 1))
+one-less n i l = omega arith
+
+pub bits-start : (n : ℕ) (ms : List ℕ) → bits n ms ≡ bits (n - 0) (drop 0 ms)
+bits-start n ms = rw sub-zero
+
+-- what is left from module i on
+pub bits-next : (n i : ℕ) (ms : List ℕ) → i < n → n ≤ length ms → bits (n - i) (drop i ms) ≡ (leb (getD ms i 0) 1 && bits (n - (i + 1)) (drop (i + 1) ms))
+unfolding bits
+bits-next n i ms p q =
+    let l : i < length ms = omega arith in
+    rw (one-less n i p, drop-cons ms i 0 l, add-one i)
+
+pub bits-end : (n i : ℕ) (ms : List ℕ) → n ≤ i → bits (n - i) (drop i ms) ≡ true
+unfolding bits
+bits-end n i ms p = let none : n - i ≡ 0 = omega arith in rw none
