@@ -1,0 +1,3 @@
+-- The laws that the proofs of `edge` cite.
+pub mod Stores
+pub mod Probing
