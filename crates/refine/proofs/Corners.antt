@@ -1,0 +1,41 @@
+-- Four corners: each goes by the same step, and they are near if none is far. By cases on a list of four. Assumes nothing.
+use mathlib.Core.Path.{_≡_, refl}
+use Prim.Native.Nat.{ℕ, _+_, _<_, _≤_}
+use native.Mathlib.Numerals.{add-one}
+use native.Mathlib.Omega.{arith}
+use mathlib.Core.Bool.{Bool, true, false, not, _&&_}
+use mathlib.Core.List.{List, [], _∷_, map}
+use lib.Ieee.{nan}
+use lib.ListN.{length, getD, drop, drop-of-length-le}
+use lib.Seq.{drop-cons}
+use Rattle.camera.proofs.Tests.{failed, passed}
+use Rattle.pixel.specs.Pixels.{corner, source}
+use Rattle.pixel.specs.declared.SourcePixel.{SourcePixel}
+use Rattle.refine.specs.Refine.{near, allNear}
+
+-- a step on each of four, written out
+pub four-of : {A B : Type 0} (f : A → B) (d : A) (xs : List A) → length xs ≡ 4 → f (getD xs 0 d) ∷ f (getD xs 1 d) ∷ f (getD xs 2 d) ∷ f (getD xs 3 d) ∷ [] ≡ map f xs
+four-of f d [] h = absurd (omega arith)
+four-of f d (x ∷ []) h = absurd (omega arith)
+four-of f d (x ∷ y ∷ []) h = absurd (omega arith)
+four-of f d (x ∷ y ∷ z ∷ []) h = absurd (omega arith)
+four-of f d (x ∷ y ∷ z ∷ w ∷ []) h = refl
+four-of f d (x ∷ y ∷ z ∷ w ∷ v ∷ vs) h = absurd (omega arith)
+
+-- whether those from i on are near, by whether corner i is
+by-turn : (q : List SourcePixel) (i : ℕ) (b : Bool) → i < length q → (near (corner q i .0) && near (corner q i .1)) ≡ b
+    → allNear (drop i q) ≡ (b && allNear (drop (i + 1) q))
+unfolding allNear
+by-turn q i b h e = rw (add-one, drop-cons q i (source nan nan), e)
+
+pub one-near : (q : List SourcePixel) (i : ℕ) {b : Bool} → i < length q → b ≡ (near (corner q i .0) && near (corner q i .1)) → not b ≡ false
+    → allNear (drop i q) ≡ allNear (drop (i + 1) q)
+one-near q i h e n = by-turn q i true h (passed e n)
+
+pub one-far : (q : List SourcePixel) (i : ℕ) {b : Bool} → i < length q → b ≡ (near (corner q i .0) && near (corner q i .1)) → not b ≡ true
+    → allNear (drop i q) ≡ false
+one-far q i h e n = by-turn q i false h (failed e n)
+
+pub none-far : (q : List SourcePixel) (i : ℕ) → length q ≤ i → allNear (drop i q) ≡ true
+unfolding allNear
+none-far q i h = rw (drop-of-length-le q h)

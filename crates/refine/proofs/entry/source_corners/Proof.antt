@@ -1,0 +1,48 @@
+-- `source_corners` meets its contract: the division of each of four, written out. Assumes nothing.
+use lib.Ieee.{nan}
+use borrow.Author.Needs.{needs}
+use Rattle.pixel.specs.Pixels.{toSource}
+use Rattle.refine.proofs.Corners.{four-of}
+use Rattle.refine.proofs.entry.source_corners.Statement.{statement}
+use Rattle.refine.proofs.entry.source_corners.Tie as tie
+
+array-copy-out-to-source : tie.Need-array-copy-out-to-source
+array-copy-out-to-source c = search needs
+
+to-source-requires : tie.Need-to-source-requires
+to-source-requires c κs = search needs
+
+array-copy-out-to-source-2 : tie.Need-array-copy-out-to-source-2
+array-copy-out-to-source-2 c = search needs
+
+to-source-requires-2 : tie.Need-to-source-requires-2
+to-source-requires-2 c κs = search needs
+
+array-copy-out-to-source-3 : tie.Need-array-copy-out-to-source-3
+array-copy-out-to-source-3 c = search needs
+
+to-source-requires-3 : tie.Need-to-source-requires-3
+to-source-requires-3 c κs = search needs
+
+array-copy-out-to-source-4 : tie.Need-array-copy-out-to-source-4
+array-copy-out-to-source-4 c = search needs
+
+to-source-requires-4 : tie.Need-to-source-requires-4
+to-source-requires-4 c κs = search needs
+
+returns : tie.Need-returns
+returns c = let a = c .before .before .before .before .before .before .before .before .args in cc (four-of (toSource (a .sx) (a .sy)) (record { 0 = nan; 1 = nan }) (a .t1) (search needs))
+
+pub source-corners-spec : {M : Type 1} → statement M
+source-corners-spec =
+    tie.close
+    (tie.spec
+    array-copy-out-to-source
+    to-source-requires
+    array-copy-out-to-source-2
+    to-source-requires-2
+    array-copy-out-to-source-3
+    to-source-requires-3
+    array-copy-out-to-source-4
+    to-source-requires-4
+    returns)

@@ -1,0 +1,79 @@
+-- `refined_corners` meets its contract: each corner and each flag is made by the call that its definition names. Assumes nothing.
+use borrow.Author.Needs.{needs}
+use Rattle.refine.specs.Rounds.{refinedCorners}
+use Rattle.refine.proofs.rounds.refined_corners.Statement.{statement}
+use Rattle.refine.proofs.rounds.refined_corners.Tie as tie
+
+crossed-at-requires : tie.Need-crossed-at-requires
+crossed-at-requires c κs = search needs
+
+crossed-at-requires-2 : tie.Need-crossed-at-requires-2
+crossed-at-requires-2 c κs = search needs
+
+crossed-at-requires-3 : tie.Need-crossed-at-requires-3
+crossed-at-requires-3 c κs = search needs
+
+crossed-at-requires-4 : tie.Need-crossed-at-requires-4
+crossed-at-requires-4 c κs = search needs
+
+array-copy-out-or-else : tie.Need-array-copy-out-or-else
+array-copy-out-or-else c = search needs
+
+or-else-requires : tie.Need-or-else-requires
+or-else-requires c κs = search needs
+
+array-copy-out-or-else-2 : tie.Need-array-copy-out-or-else-2
+array-copy-out-or-else-2 c = search needs
+
+or-else-requires-2 : tie.Need-or-else-requires-2
+or-else-requires-2 c κs = search needs
+
+array-copy-out-or-else-3 : tie.Need-array-copy-out-or-else-3
+array-copy-out-or-else-3 c = search needs
+
+or-else-requires-3 : tie.Need-or-else-requires-3
+or-else-requires-3 c κs = search needs
+
+array-copy-out-or-else-4 : tie.Need-array-copy-out-or-else-4
+array-copy-out-or-else-4 c = search needs
+
+or-else-requires-4 : tie.Need-or-else-requires-4
+or-else-requires-4 c κs = search needs
+
+is-at-requires : tie.Need-is-at-requires
+is-at-requires c κs = search needs
+
+is-at-requires-2 : tie.Need-is-at-requires-2
+is-at-requires-2 c κs = search needs
+
+is-at-requires-3 : tie.Need-is-at-requires-3
+is-at-requires-3 c κs = search needs
+
+is-at-requires-4 : tie.Need-is-at-requires-4
+is-at-requires-4 c κs = search needs
+
+returns : tie.Need-returns
+unfolding refinedCorners
+returns c = cc
+
+pub refined-corners-spec : {M : Type 1} → statement M
+refined-corners-spec =
+    tie.close
+    (tie.spec
+    crossed-at-requires
+    crossed-at-requires-2
+    crossed-at-requires-3
+    crossed-at-requires-4
+    array-copy-out-or-else
+    or-else-requires
+    array-copy-out-or-else-2
+    or-else-requires-2
+    array-copy-out-or-else-3
+    or-else-requires-3
+    array-copy-out-or-else-4
+    or-else-requires-4
+    is-at-requires
+    is-at-requires-2
+    is-at-requires-3
+    is-at-requires-4
+    returns)

@@ -1,0 +1,3 @@
+-- What the contracts of `refine` cite.
+pub mod Rounds
+pub mod Refine

@@ -1,0 +1,403 @@
+// refine.rs, `refine_round` and the rounds of `refine_corners`.
+ghost use mathlib.Core.Path.{_≡_};
+ghost use Prim.Native.Nat.{_-_, _≤_, _<_};
+ghost use Rattle.sampling.specs.Photographs.{photo};
+ghost use Rattle.look.specs.Run.{Runs};
+ghost use Rattle.grid.specs.Grids.{gridOf};
+ghost use Rattle.look.specs.Sheets.{bit as bitOf};
+ghost use Rattle.line.specs.Line.{zeroLine};
+ghost use Rattle.refine.specs.Rounds.{
+  crossedAt,
+  edgesFrom,
+  further,
+  isAt,
+  isWeak,
+  joined,
+  noEdges,
+  noStat,
+  orElse,
+  refinedCorners,
+  refused as refusedBy,
+  round,
+  roundEnd,
+  rounds,
+  validCount,
+};
+use crate::Answer;
+use crate::Edges;
+use crate::EdgesRun;
+use crate::RefinedCorners;
+use crate::Rounded;
+use consts::Settings;
+use fit::EdgeFit;
+use fit::EdgeStat;
+use homography::Mapped;
+use homography::PerspectiveTransform;
+use line::Crossing;
+use line::Line2;
+use look::Meter;
+use pixel::Direction;
+use pixel::SourcePixel;
+use sampling::Scene;
+
+// A refusal: its number, zero corners, zero counts and flags off.
+pub fn refused(number: u32) -> Answer
+    ensures { λ r. ⌜ r ≡ refusedBy number ⌝ }
+{
+    Answer {
+        number,
+        refined: RefinedCorners {
+            corners: [SourcePixel(0.0, 0.0); 4],
+            edge_stats: [no_stat(); 4],
+            corner_refined: [false; 4],
+        },
+    }
+}
+
+// Nothing counted.
+fn no_stat() -> EdgeStat
+    ensures { λ r. ⌜ r ≡ noStat ⌝ }
+{
+    EdgeStat {
+        points_probed: 0,
+        points_fit: 0,
+        dropped_outliers: 0,
+        valid: false,
+    }
+}
+
+fn zero_line() -> Line2
+    ensures { λ r. ⌜ r ≡ zeroLine ⌝ }
+{
+    Line2 {
+        centroid: SourcePixel(0.0, 0.0),
+        dir: Direction { x: 0.0, y: 0.0 },
+    }
+}
+
+impl Edges {
+    // No edge yet.
+    fn none() -> Edges
+        ensures { λ r. ⌜ r ≡ noEdges ⌝ }
+    {
+        Edges {
+            number: number::ANSWER,
+            lines: [zero_line(); 4],
+            edge_stats: [no_stat(); 4],
+        }
+    }
+
+    // Edge e put in its place.
+    fn with(self, e: usize, fit: EdgeFit) -> Edges
+        requires { ⌜ e < 4 ⌝ }
+        ensures { λ r. ⌜ r ≡ joined e self fit ⌝ }
+    {
+        let number = self.number;
+        let mut lines = self.lines;
+        let mut edge_stats = self.edge_stats;
+        match fit {
+            EdgeFit::Stops(n) => Edges {
+                number: n,
+                lines,
+                edge_stats,
+            },
+            EdgeFit::Weak(stat) => {
+                edge_stats[e] = stat;
+                Edges {
+                    number,
+                    lines,
+                    edge_stats,
+                }
+            }
+            EdgeFit::Lined(line, stat) => {
+                lines[e] = line;
+                edge_stats[e] = stat;
+                Edges {
+                    number,
+                    lines,
+                    edge_stats,
+                }
+            }
+        }
+    }
+}
+
+fn bit(set: bool) -> u32
+    ensures { λ r. ⌜ (r ≡ bitOf set) × (r ≤ 1) ⌝ }
+{
+    if set { 1 } else { 0 }
+}
+
+// How many edges are valid.
+fn valid_count(edges: Edges) -> u32
+    ensures { λ r. ⌜ r ≡ validCount edges ⌝ }
+{
+    let stats = edges.edge_stats;
+    bit(stats[0].valid) + bit(stats[1].valid) + bit(stats[2].valid) + bit(stats[3].valid)
+}
+
+// Where the edges before and behind corner i cross, if both are valid. The point is computed along the
+// one before: along the other it would round otherwise.
+fn crossed_at(edges: Edges, i: usize) -> Crossing
+    requires { ⌜ i < 4 ⌝ }
+    ensures { λ r. ⌜ r ≡ crossedAt edges i ⌝ }
+{
+    let before = (i + 3) % 4;
+    let stats = edges.edge_stats;
+    let lines = edges.lines;
+    if !stats[before].valid {
+        return Crossing::Parallel;
+    }
+    if !stats[i].valid {
+        return Crossing::Parallel;
+    }
+    line::cross_lines(lines[before], lines[i])
+}
+
+fn or_else(crossing: Crossing, start: SourcePixel) -> SourcePixel
+    ensures { λ r. ⌜ r ≡ orElse crossing start ⌝ }
+{
+    match crossing {
+        Crossing::At(place) => place,
+        Crossing::Parallel => start,
+    }
+}
+
+fn is_at(crossing: Crossing) -> bool
+    ensures { λ r. ⌜ r ≡ isAt crossing ⌝ }
+{
+    match crossing {
+        Crossing::At(_) => true,
+        Crossing::Parallel => false,
+    }
+}
+
+// The corners of a round that started from q: one that is not refined keeps its start.
+fn refined_corners(q: [SourcePixel; 4], edges: Edges) -> RefinedCorners
+    ensures { λ r. ⌜ r ≡ refinedCorners q edges ⌝ }
+{
+    let c0 = crossed_at(edges, 0);
+    let c1 = crossed_at(edges, 1);
+    let c2 = crossed_at(edges, 2);
+    let c3 = crossed_at(edges, 3);
+    let edge_stats = edges.edge_stats;
+    RefinedCorners {
+        corners: [
+            or_else(c0, q[0]),
+            or_else(c1, q[1]),
+            or_else(c2, q[2]),
+            or_else(c3, q[3]),
+        ],
+        edge_stats,
+        corner_refined: [is_at(c0), is_at(c1), is_at(c2), is_at(c3)],
+    }
+}
+
+// A round's answer, or the number of the edge that ended it, or 9.
+fn round_end(q: [SourcePixel; 4], edges: Edges) -> Answer
+    ensures { λ r. ⌜ r ≡ roundEnd q edges ⌝ }
+{
+    if edges.number != number::ANSWER {
+        return refused(edges.number);
+    }
+    if valid_count(edges) < 2 {
+        return refused(number::THIN);
+    }
+    Answer {
+        number: number::ANSWER,
+        refined: refined_corners(q, edges),
+    }
+}
+
+// The four edges in turn, each from a corner to the next. The number of one ends them.
+fn fit_edges(
+    settings: Settings,
+    bytes: &[u8],
+    stride: u32,
+    scene: Scene,
+    sheet: &mut [u8],
+    meter: Meter,
+    map: PerspectiveTransform,
+    q: [SourcePixel; 4],
+    modules: &[u8],
+    dim: u32,
+    inverted: bool,
+) -> EdgesRun
+    ensures { λ r. ⌜ Runs scene (photo (now (bytes .entry)) stride) (edgesFrom settings map q (gridOf dim (now (modules .entry))) inverted 4 0 noEdges) (r .edges) (now (sheet .entry)) (now (sheet .exit)) meter (r .meter) ⌝ }
+{
+    let mut edges = Edges::none();
+    let mut meter = meter;
+    let mut e: usize = 0;
+    while e < 4 {
+        let run = edge::refine_edge(
+            settings,
+            bytes,
+            stride,
+            scene,
+            sheet,
+            meter,
+            map,
+            modules,
+            dim,
+            inverted,
+            e as u32,
+            q[e],
+            q[(e + 1) % 4],
+        );
+        let fit = run.fit;
+        edges = edges.with(e, fit);
+        meter = run.meter;
+        if edges.number != number::ANSWER {
+            return EdgesRun { edges, meter };
+        }
+        e += 1;
+    }
+    EdgesRun { edges, meter }
+}
+
+// One round from the corners q.
+fn refine_round(
+    settings: Settings,
+    bytes: &[u8],
+    stride: u32,
+    scene: Scene,
+    sheet: &mut [u8],
+    meter: Meter,
+    modules: &[u8],
+    dim: u32,
+    inverted: bool,
+    q: [SourcePixel; 4],
+) -> Rounded
+    ensures { λ r. ⌜ Runs scene (photo (now (bytes .entry)) stride) (round settings (gridOf dim (now (modules .entry))) inverted q) (r .answer) (now (sheet .entry)) (now (sheet .exit)) meter (r .meter) ⌝ }
+{
+    match homography::quad_map(q) {
+        Mapped::NoMap => Rounded {
+            answer: refused(number::QUAD),
+            meter,
+        },
+        Mapped::By(map) => {
+            let run = fit_edges(
+                settings,
+                bytes,
+                stride,
+                scene,
+                sheet,
+                meter,
+                map,
+                q,
+                modules,
+                dim,
+                inverted,
+            );
+            let edges = run.edges;
+            let meter = run.meter;
+            Rounded {
+                answer: round_end(q, edges),
+                meter,
+            }
+        }
+    }
+}
+
+// A round without a map, or with under two valid edges.
+fn is_weak(answer: Answer) -> bool
+    ensures { λ r. ⌜ r ≡ isWeak answer ⌝ }
+{
+    if answer.number == number::QUAD {
+        return true;
+    }
+    answer.number == number::THIN
+}
+
+// The rounds after the first, each from the corners of the last. A weak one ends them and leaves the answer
+// that there is, since that is still measured; the number of an edge ends the refinement.
+fn further_rounds(
+    settings: Settings,
+    bytes: &[u8],
+    stride: u32,
+    scene: Scene,
+    sheet: &mut [u8],
+    meter: Meter,
+    modules: &[u8],
+    dim: u32,
+    inverted: bool,
+    first: Answer,
+) -> Rounded
+    ensures { λ r. ⌜ Runs scene (photo (now (bytes .entry)) stride) (further settings (gridOf dim (now (modules .entry))) inverted (settings .rounds - 1) first) (r .answer) (now (sheet .entry)) (now (sheet .exit)) meter (r .meter) ⌝ }
+{
+    let mut answer = first;
+    let mut meter = meter;
+    let mut round: u32 = 1;
+    while round < settings.rounds {
+        let refined = answer.refined;
+        let corners = refined.corners;
+        let run = refine_round(
+            settings,
+            bytes,
+            stride,
+            scene,
+            sheet,
+            meter,
+            modules,
+            dim,
+            inverted,
+            corners,
+        );
+        let next = run.answer;
+        meter = run.meter;
+        if is_weak(next) {
+            return Rounded { answer, meter };
+        }
+        if next.number != number::ANSWER {
+            return run;
+        }
+        answer = next;
+        round += 1;
+    }
+    Rounded { answer, meter }
+}
+
+// All rounds. The first one's refusal is the refinement's.
+pub(crate) fn refine_rounds(
+    settings: Settings,
+    bytes: &[u8],
+    stride: u32,
+    scene: Scene,
+    sheet: &mut [u8],
+    meter: Meter,
+    modules: &[u8],
+    dim: u32,
+    inverted: bool,
+    q: [SourcePixel; 4],
+) -> Rounded
+    ensures { λ r. ⌜ Runs scene (photo (now (bytes .entry)) stride) (rounds settings (gridOf dim (now (modules .entry))) inverted q) (r .answer) (now (sheet .entry)) (now (sheet .exit)) meter (r .meter) ⌝ }
+{
+    let first = refine_round(
+        settings,
+        bytes,
+        stride,
+        scene,
+        sheet,
+        meter,
+        modules,
+        dim,
+        inverted,
+        q,
+    );
+    let answer = first.answer;
+    if answer.number != number::ANSWER {
+        return first;
+    }
+    further_rounds(
+        settings,
+        bytes,
+        stride,
+        scene,
+        sheet,
+        first.meter,
+        modules,
+        dim,
+        inverted,
+        answer,
+    )
+}
