@@ -1,0 +1,39 @@
+-- What a job card run into a buffer returns and leaves there, for each way out of the call: the buffer is too short, the job is refused, or it is
+-- answered. A malformed card needs no way of its own: its job is refused with the same number as a short buffer. Assumes nothing.
+use Prim.Native.Nat.{ℕ, _≤_, _<_}
+use mathlib.Core.Bool.{false, and-false}
+use mathlib.Core.Path.{_≡_, sym, ap, _∙_}
+use mathlib.Core.List.{List, _++_}
+use borrow.Author.Tests.{le-leb, lt-leb, eq-eqb, ne-eqb}
+use lib.ListN.{length, drop}
+use Rattle.refine.specs.declared.Answer.{Answer}
+use Rattle.refine.specs.Rounds.{refused}
+use Rattle.number.specs.Numbers as number
+use Rattle.cards.specs.JobCard.{goodCard, jobAnswer}
+use Rattle.cards.specs.ResultCard.{resultCard, runNumber, runLeaves}
+use Rattle.cards.proofs.Parts.{by-test}
+
+malformed : (card : List ℕ) → goodCard card ≡ false → jobAnswer card .number ≡ number.card
+unfolding jobAnswer refused
+malformed card bad = rw bad
+
+module _ (card out : List ℕ) where
+  pub too-short : length out < 93 → (number.card ≡ runNumber card out) × (out ≡ runLeaves card out)
+  unfolding runNumber runLeaves
+  too-short short = (rw (lt-leb 93 (length out) short, and-false), rw (lt-leb 93 (length out) short, and-false))
+
+  module _ (room : 93 ≤ length out) (a : Answer) (is : a ≡ jobAnswer card) where
+    job-number : a .number ≡ runNumber card out
+    unfolding runNumber
+    job-number =
+        ap (λ (x : Answer). x .number) is
+        ∙ by-test (goodCard card) (λ good. rw (good, le-leb 93 (length out) room)) (λ bad. rw bad (malformed card bad))
+
+    pub refused-run : (a .number ≡ number.answer → ⊥) → (a .number ≡ runNumber card out) × (out ≡ runLeaves card out)
+    unfolding runLeaves
+    refused-run other = (job-number, rw (← job-number, ne-eqb (a .number) number.answer other))
+
+    pub answered-run : (left : List ℕ) → a .number ≡ number.answer → left ≡ resultCard (a .refined) ++ drop 93 out
+        → (number.answer ≡ runNumber card out) × (left ≡ runLeaves card out)
+    unfolding runLeaves
+    answered-run left zero wrote = (sym zero ∙ job-number, rw (← job-number, eq-eqb (a .number) number.answer zero, ← is) wrote)

@@ -1,0 +1,4 @@
+-- What the contracts of `cards` cite.
+pub mod Fields
+pub mod JobCard
+pub mod ResultCard
