@@ -1,0 +1,2 @@
+-- What the proofs of `export` cite.
+pub mod Chains

@@ -1,0 +1,3 @@
+-- What the contracts of `export` cite.
+pub mod Lent
+pub mod Answers

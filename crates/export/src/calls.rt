@@ -1,0 +1,75 @@
+// The refinement calls.
+ghost use Rattle.sampling.specs.declared.View.the-variants.{Plain, Calibrated};
+ghost use Rattle.export.specs.Lent.{cameraOf};
+ghost use Rattle.export.specs.Answers.{lentJob, Written};
+use sampling::View;
+
+#[no_mangle]
+pub extern "C" fn trufolmesca_refine_corners(
+    bytes: &[u8],
+    width: u32,
+    height: u32,
+    stride: u32,
+    modules: &[u8],
+    dim: u32,
+    sx: f64,
+    sy: f64,
+    corners: &[f64],
+    inverted: bool,
+    places: &mut [f64],
+    counts: &mut [u32],
+) -> u32
+    ensures { λ r. ⌜ Written (lentJob (now (bytes .entry)) width height stride (now (modules .entry)) dim sx sy (now (corners .entry)) inverted Plain) r (now (places .entry)) (now (places .exit)) (now (counts .entry)) (now (counts .exit)) ⌝ }
+{
+    let q = crate::answers::working_of(corners);
+    let a = refine::refine_corners(
+        bytes,
+        width,
+        height,
+        stride,
+        modules,
+        dim,
+        sx,
+        sy,
+        q,
+        inverted,
+    );
+    crate::answers::put_answer(a, places, counts)
+}
+
+#[no_mangle]
+pub extern "C" fn trufolmesca_refine_corners_mapped(
+    bytes: &[u8],
+    width: u32,
+    height: u32,
+    stride: u32,
+    modules: &[u8],
+    dim: u32,
+    sx: f64,
+    sy: f64,
+    corners: &[f64],
+    inverted: bool,
+    camera: &[f64],
+    lens: bool,
+    places: &mut [f64],
+    counts: &mut [u32],
+) -> u32
+    ensures { λ r. ⌜ Written (lentJob (now (bytes .entry)) width height stride (now (modules .entry)) dim sx sy (now (corners .entry)) inverted (Calibrated (cameraOf (now (camera .entry)) lens))) r (now (places .entry)) (now (places .exit)) (now (counts .entry)) (now (counts .exit)) ⌝ }
+{
+    let q = crate::answers::working_of(corners);
+    let view = View::Calibrated(crate::lent::camera_of(camera, lens));
+    let a = refine::refine_corners_mapped(
+        bytes,
+        width,
+        height,
+        stride,
+        modules,
+        dim,
+        sx,
+        sy,
+        q,
+        inverted,
+        view,
+    );
+    crate::answers::put_answer(a, places, counts)
+}

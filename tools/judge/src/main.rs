@@ -1,0 +1,60 @@
+//! Holds the port against the Rust that it was made from.
+mod bench;
+mod cards;
+mod compare;
+mod draw;
+mod families;
+mod job;
+mod leaves;
+mod oracle;
+mod port;
+mod rng;
+mod rules;
+mod steer;
+
+const HELP: &str = "judge jobs [--seeds N] [--from SEED] [--family NAME] [--ways]
+judge job SEED [--family NAME]
+judge leaves [--calls N] [--from SEED]
+judge bench [--photographs N] [--repeats N] [--width N] [--dim N] [--lens yes|no] [--side rust|port]
+judge cards LIST ANSWERS [--seeds N]
+judge card FILE";
+
+/// The value behind a word, if the word is there.
+fn value<'a>(words: &'a [String], name: &str) -> Option<&'a str> {
+    words.iter().position(|w| w == name).map(|i| words.get(i + 1).map_or("", |w| w.as_str()))
+}
+
+fn number(words: &[String], name: &str, default: u64) -> u64 {
+    value(words, name).map_or(default, |w| w.parse().unwrap_or_else(|_| panic!("{name} wants a number")))
+}
+
+fn main() {
+    oracle::keep_quiet();
+    let words: Vec<String> = std::env::args().skip(1).collect();
+    let family = value(&words, "--family");
+    let good = match words.first().map(|w| w.as_str()) {
+        Some("jobs") => compare::run(&compare::Options {
+            first: number(&words, "--from", 0),
+            count: number(&words, "--seeds", 2000),
+            family,
+            ways: words.iter().any(|w| w == "--ways"),
+        }),
+        Some("job") => compare::explain(words.get(1).and_then(|w| w.parse().ok()).expect("judge job SEED"), family),
+        Some("leaves") => leaves::run(number(&words, "--from", 0), number(&words, "--calls", 1_000_000)),
+        Some("bench") => bench::run(&bench::Options {
+            photographs: number(&words, "--photographs", 4),
+            repeats: number(&words, "--repeats", 25),
+            side: value(&words, "--side"),
+            width: value(&words, "--width"),
+            dim: value(&words, "--dim"),
+            lens: value(&words, "--lens"),
+        }),
+        Some("cards") if words.len() > 2 => cards::run(number(&words, "--seeds", 4000), &words[1], &words[2]),
+        Some("card") if words.len() > 1 => cards::one(&words[1]),
+        _ => {
+            println!("{HELP}");
+            false
+        }
+    };
+    std::process::exit(if good { 0 } else { 1 });
+}
