@@ -1,10 +1,10 @@
--- refine.rs, `refine_corners` and `refine_corners_mapped`: the entry checks, what the calls return, and what the marking calls leave in sheet and copy.
+-- refine.rs, `refine_corners` and `refine_corners_mapped`: the entry checks, and what the calls return.
 -- Definitions only.
-use Prim.Native.Nat.{ℕ, _*_}
+use Prim.Native.Nat.{ℕ}
 use mathlib.Core.Bool.{Bool, true, not, _&&_}
-use mathlib.Core.List.{List, [], _∷_, _++_, map}
-use lib.Dec.{leb, eqb}
-use lib.ListN.{length, drop}
+use mathlib.Core.List.{List, [], _∷_, map}
+use lib.Dec.{eqb}
+use lib.ListN.{length}
 use lib.Ieee.{Float}
 use Rattle.number.specs.Numbers as number
 use Rattle.ieee.specs.Parts.{isFinite, magnitude}
@@ -18,7 +18,6 @@ use Rattle.sampling.specs.declared.View.{View}
 use Rattle.sampling.specs.declared.Scene.{Scene}
 use Rattle.sampling.specs.Sampling.{goodView}
 use Rattle.look.specs.Look.{Look, value, reads}
-use Rattle.look.specs.Sheets.{sheet, copy}
 use Rattle.grid.specs.Grids.{Grid, goodGrid}
 use Rattle.refine.specs.declared.Answer.{Answer}
 use Rattle.refine.specs.Rounds.{refused, rounds}
@@ -59,7 +58,7 @@ photograph bytes stride = record { bytes = bytes; stride = stride }
 unfoldable pub sourceCorners : Request → List SourcePixel
 sourceCorners r = map (toSource (r .sx) (r .sy)) (r .corners)
 
--- ---- the entry checks, 1 to 7
+-- ---- the entry checks, 1 to 6
 
 unfoldable pub goodScale : Float → Bool
 goodScale s = isFinite s && (f0 ≺ s)
@@ -96,10 +95,6 @@ entryChecks r p =
 unfoldable pub entry : Request → Photograph → ℕ
 entry r p = first (entryChecks r p)
 
--- with a sheet and a copy of so many bytes
-unfoldable pub markingEntry : Request → Photograph → ℕ → ℕ → ℕ
-markingEntry r p s c = first (entryChecks r p ++ check number.sheet (leb (r .width * r .height) s && leb (r .width * r .height) c) ∷ [])
-
 -- ---- the refinement behind the entry checks
 
 abbrev pub sceneOf : Request → Scene
@@ -124,24 +119,7 @@ readsOf s r p = reads (sceneOf r) (shown p) (refinement s r)
 unfoldable pub refine : Settings → Request → Photograph → Answer
 refine s r p = if eqb (entry r p) number.answer then result s r p else refused (entry r p)
 
--- ---- the marking call: what it returns, and the sheet and the copy after it, where they were s and c
-
-unfoldable pub refineMarking : Settings → Request → Photograph → ℕ → ℕ → Answer
-refineMarking t r p s c = if eqb (markingEntry r p s c) number.answer then result t r p else refused (markingEntry r p s c)
-
-unfoldable pub sheetAfter : Settings → Request → Photograph → List ℕ → List ℕ → List ℕ
-sheetAfter t r p s c =
-    if eqb (markingEntry r p (length s) (length c)) number.answer
-    then sheet (r .width) (r .height) (readsOf t r p) ++ drop (r .width * r .height) s
-    else s
-
-unfoldable pub copyAfter : Settings → Request → Photograph → List ℕ → List ℕ → List ℕ
-copyAfter t r p s c =
-    if eqb (markingEntry r p (length s) (length c)) number.answer
-    then copy (r .width) (r .height) (shown p) (readsOf t r p) ++ drop (r .width * r .height) c
-    else c
-
 -- all of the above, for a proof that computes with them: to unfold this is to unfold what its line names
 unfoldable pub opened : Unit {0}
-unfolding sourceCorners goodScale near allNear entry markingEntry refinement result readsOf refine refineMarking sheetAfter copyAfter
+unfolding sourceCorners goodScale near allNear entry refinement result readsOf refine
 opened = tt

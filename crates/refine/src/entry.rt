@@ -13,6 +13,7 @@ ghost use Rattle.refine.specs.Refine.{
   photograph,
   request,
 };
+use crate::Entered;
 use pixel::SourcePixel;
 use pixel::WorkingPixel;
 use sampling::View;
@@ -21,7 +22,7 @@ use sampling::View;
 const FARTHEST: f64 = 1048576.0;
 
 // The corners after the division.
-pub(crate) fn source_corners(corners: [WorkingPixel; 4], sx: f64, sy: f64) -> [SourcePixel; 4]
+fn source_corners(corners: [WorkingPixel; 4], sx: f64, sy: f64) -> [SourcePixel; 4]
     ensures { λ r. ⌜ r ≡ map (toSource sx sy) corners ⌝ }
 {
     [
@@ -86,7 +87,7 @@ fn all_near(corners: [SourcePixel; 4]) -> bool
 
 // The number of the first entry check that fails, and 0 where none does. It goes by the corners after the
 // division, from whatever corners these came.
-pub(crate) fn entry_number(
+fn entry_number(
     bytes: &[u8],
     width: u32,
     height: u32,
@@ -117,4 +118,24 @@ pub(crate) fn entry_number(
         return number::LENS;
     }
     number::ANSWER
+}
+
+// The division and the entry checks. The polarity is not looked at.
+pub fn enter(
+    bytes: &[u8],
+    width: u32,
+    height: u32,
+    stride: u32,
+    modules: &[u8],
+    dim: u32,
+    sx: f64,
+    sy: f64,
+    corners: [WorkingPixel; 4],
+    view: View,
+) -> Entered
+    ensures { λ r. ⌜ ((inverted : Bool) → r .number ≡ entry (request width height (gridOf dim (now (modules .entry))) sx sy corners inverted view) (photograph (now (bytes .entry)) stride)) × (r .corners ≡ map (toSource sx sy) corners) ⌝ }
+{
+    let q = source_corners(corners, sx, sy);
+    let number = entry_number(bytes, width, height, stride, modules, dim, sx, sy, q, view);
+    Entered { number, corners: q }
 }

@@ -16,6 +16,8 @@ use sampling::View;
 mod entry; // entry.rt: the entry checks
 mod rounds; // rounds.rt: a round, and the rounds
 
+pub use entry::enter;
+pub use rounds::refine_rounds;
 pub use rounds::refused;
 
 // Four corners in source pixels, what is counted of the four edges, and which corners were refined.
@@ -29,6 +31,12 @@ pub struct RefinedCorners {
 pub struct Answer {
     pub number: u32,
     pub refined: RefinedCorners,
+}
+
+// What the entry checks of a refinement come to: a number, and the corners after the division.
+pub struct Entered {
+    pub number: u32,
+    pub corners: [SourcePixel; 4],
 }
 
 // The edges of a round so far, and the number of one that ended it. An edge that is not valid has the
@@ -132,11 +140,22 @@ fn refine_corners_with(
 ) -> Answer
     ensures { λ r. ⌜ r ≡ refine settings (request width height (gridOf dim (now (modules .entry))) sx sy corners inverted view) (photograph (now (bytes .entry)) stride) ⌝ }
 {
-    let q = entry::source_corners(corners, sx, sy);
-    let refusal = entry::entry_number(bytes, width, height, stride, modules, dim, sx, sy, q, view);
-    if refusal != number::ANSWER {
-        return rounds::refused(refusal);
+    let entered = entry::enter(
+        bytes,
+        width,
+        height,
+        stride,
+        modules,
+        dim,
+        sx,
+        sy,
+        corners,
+        view,
+    );
+    if entered.number != number::ANSWER {
+        return rounds::refused(entered.number);
     }
+    let q = entered.corners;
     let scene = Scene {
         width,
         height,

@@ -358,7 +358,7 @@ fn further_rounds(
 }
 
 // All rounds. The first one's refusal is the refinement's.
-pub(crate) fn refine_rounds(
+pub fn refine_rounds(
     settings: Settings,
     bytes: &[u8],
     stride: u32,

@@ -1,7 +1,7 @@
 -- Every pixel that a sample of the refinement reads lies in the picture. Why: the sample is rejected unless 0 <= x <= width - 1, so the whole part of x is at most
 -- width - 1, and the column to its right is cut there; the same for the rows. Assumes nothing.
 use mathlib.Core.Path.{_≡_, refl, sym, ap, _∙_, subst}
-use Prim.Native.Nat.{ℕ, _-_, _*_, _/_, _^_, _≤_, _<_, min, zero-le}
+use Prim.Native.Nat.{ℕ, _+_, _-_, _*_, _/_, _^_, _≤_, _<_, min, zero-le}
 use native.Mathlib.Nat.{le-trans, div-le-of-le-mul, mul-comm, mul-right-comm, mul-one, le-of-mul-le-mul-right, mul-lt-mul-of-pos-right, le-of-lt}
 use native.Mathlib.Omega.{arith}
 use mathlib.Core.Bool.{Bool, true, false, not, _&&_, _||_, true≢false}
@@ -18,7 +18,7 @@ use Rattle.pixel.specs.declared.SourcePixel.{SourcePixel}
 use Rattle.camera.specs.declared.Placed.{Placed}
 use Rattle.camera.specs.declared.Placed.the-variants.{On, Nowhere}
 use Rattle.camera.specs.Camera.{rectifiedToSource}
-use Rattle.sampling.specs.Photographs.{sized, goodSize}
+use Rattle.sampling.specs.Photographs.{sized, goodSize, goodPhotograph}
 use Rattle.sampling.specs.declared.BorderMode.the-variants.{Reject}
 use Rattle.sampling.specs.declared.Spot.the-variants.{Off}
 use Rattle.sampling.specs.declared.View.{View}
@@ -92,6 +92,19 @@ size-checked w h e =
     let x = size-limits w (t .0) in
     let y = size-limits h (t .1) in
     record { wide = x .0; high = y .0; narrow = x .1; low = y .1 }
+
+-- what check 2 says of a photograph
+pub record Framed (w h stride bytes : ℕ) : Type 0 where
+  pub across : w ≤ stride
+  pub narrow : stride ≤ 65535
+  pub down : (h - 1) * stride + w ≤ bytes
+
+pub photograph-checked : (w h stride bytes : ℕ) → goodPhotograph w h stride bytes ≡ true → Framed w h stride bytes
+unfolding goodPhotograph
+photograph-checked w h stride bytes e =
+    let t = and-true (leb w stride && leb stride 65535) (leb ((h - 1) * stride + w) bytes) e in
+    let u = and-true (leb w stride) (leb stride 65535) (t .0) in
+    record { across = leb-true w stride (u .0); narrow = leb-true stride 65535 (u .1); down = leb-true ((h - 1) * stride + w) bytes (t .1) }
 
 module _ (w h : ℕ) (size : Sized w h) where
   pub spot-inside : (x y : Float) → Each (Inside w h) (touched (spot w h Reject x y))

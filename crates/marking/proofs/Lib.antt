@@ -1,0 +1,5 @@
+-- What belongs to no one function of `marking`.
+pub mod Blanking
+pub mod Entered
+pub mod Calls
+pub mod Demand3

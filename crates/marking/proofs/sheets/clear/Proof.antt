@@ -1,0 +1,57 @@
+-- `clear` meets its contract: behind i turns the first i bytes are zeros. Assumes nothing.
+use Prim.Native.Nat.{ℕ, _≤_, _-_}
+use mathlib.Core.Path.{_≡_, refl, ap, _∙_}
+use mathlib.Core.List.{List, _++_}
+use native.Mathlib.Omega.{arith}
+use borrow.Author.Needs.{needs}
+use borrow.Author.Fill.{fill-more}
+use lib.ListN.{length, replicate, drop, set, length-set}
+use Rattle.marking.proofs.sheets.clear.Statement.{statement}
+use Rattle.marking.proofs.sheets.clear.Tie as tie
+
+abbrev Inv-loop : tie.InvT-loop
+Inv-loop sheet₀ n i₀ sheet i = (sheet ≡ replicate i 0 ++ drop i sheet₀) × (i ≤ n) × (length sheet ≡ length sheet₀)
+
+abbrev μ-loop : tie.MeasureT-loop
+μ-loop sheet₀ n i₀ sheet i = n - i
+
+loop-holds : tie.Need-loop-holds Inv-loop μ-loop
+loop-holds c = (refl, search needs, refl)
+
+slice-write-sheet : tie.Need-slice-write-sheet Inv-loop μ-loop
+slice-write-sheet c = omega arith
+
+add-i : tie.Need-add-i Inv-loop μ-loop
+add-i c = omega arith
+
+loop-less : tie.Need-loop-less Inv-loop μ-loop
+loop-less c = omega arith
+
+loop-again : tie.Need-loop-again Inv-loop μ-loop
+loop-again c = (
+  ap (λ (l : List ℕ). set l (c .before .loop .i) 0) (c .before .loop .inv .0) ∙ fill-more (c .before .loop .i) 0 (c .before .before .args .sheet .now) (omega arith),
+  omega arith,
+  simp length-set (c .before .loop .inv .2),
+)
+
+same-length : tie.Need-same-length Inv-loop μ-loop
+same-length c = c .before .loop .inv .2
+
+returns : tie.Need-returns Inv-loop μ-loop
+returns c =
+    let e : c .before .loop .i ≡ c .before .before .args .n = omega arith in
+    c .before .loop .inv .0 ∙ ap (λ (k : ℕ). replicate k 0 ++ drop k (c .before .before .args .sheet .now)) e
+
+pub clear-spec : {M : Type 1} → statement M
+clear-spec =
+    tie.close
+    (tie.spec
+    Inv-loop
+    μ-loop
+    loop-holds
+    slice-write-sheet
+    add-i
+    loop-less
+    loop-again
+    same-length
+    returns)

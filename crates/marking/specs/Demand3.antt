@@ -1,0 +1,65 @@
+-- Demand 3: what two marking calls over one request tell of each other, as they return and leave the sheets and copies that they were lent.
+-- Definitions only: `demand-3` in proofs/Demand3 proves it of all settings and every request, so with and without a camera, refused behind the entry checks or not.
+use mathlib.Core.Path.{_≡_}
+use mathlib.Core.Logic.{_↔_}
+use Prim.Native.Nat.{ℕ, _+_, _*_, _≤_, _<_}
+use mathlib.Core.Bool.{true}
+use mathlib.Core.List.{List}
+use lib.ListN.{length, getD, take, drop}
+use Rattle.number.specs.Numbers as number
+use Rattle.ieee.specs.Floats.{if_then_else_}
+use Rattle.consts.specs.declared.Settings.{Settings}
+use Rattle.look.specs.Sheets.{isRead, bit}
+use Rattle.refine.specs.declared.Answer.{Answer}
+use Rattle.refine.specs.Refine.{Request, Photograph, shown, readsOf}
+use Rattle.marking.specs.Marking.{area, markingEntry, Marks}
+
+-- The request is what all calls share: width, height, rough corners, scales, grid, polarity and camera.
+module _ (t : Settings) (r : Request) where
+  -- a marking call that passes the entry checks and has ended as its contract says. The photograph's stride, its bytes between rows, and what sheet and copy held before are its own
+  pub record Call : Type 0 where
+    pub photograph : Photograph
+    pub answer : Answer
+    pub sheet : List ℕ
+    pub sheet′ : List ℕ
+    pub copy : List ℕ
+    pub copy′ : List ℕ
+    pub ended : Marks t r photograph answer sheet sheet′ copy copy′
+    pub passes : markingEntry r photograph (length sheet) (length copy) ≡ number.answer
+
+  -- a pixel's byte in a sheet or a copy
+  abbrev pub at : List ℕ → ℕ → ℕ → ℕ
+  at bytes x y = getD bytes (y * r .width + x) 0
+
+  -- the second call left the first one's sheet and copy, over width × height
+  pub record SameMarks (a b : Call) : Type 0 where
+    pub sheets : take (area r) (b .sheet′) ≡ take (area r) (a .sheet′)
+    pub copies : take (area r) (b .copy′) ≡ take (area r) (a .copy′)
+
+  -- the second photograph has the first one's value at every pixel marked for the first
+  abbrev pub AgreesWhereMarked : Call → Call → Type 0
+  AgreesWhereMarked a b = (x y : ℕ) → x < r .width → y < r .height → at (a .sheet′) x y ≡ 1 → shown (b .photograph) x y ≡ shown (a .photograph) x y
+
+  -- the second photograph is the first call's blanked copy, its stride the width. Other bytes may lie behind it
+  pub record OverTheCopy (a b : Call) : Type 0 where
+    pub bytes : take (area r) (b .photograph .bytes) ≡ take (area r) (a .copy′)
+    pub stride : b .photograph .stride ≡ r .width
+
+  pub record Demand3 : Type 0 where
+    -- 1. a call marks exactly the pixels that the definition lists as read, which all lie in the picture, and copies those alone
+    pub marked : (a : Call) (x y : ℕ) → x < r .width → y < r .height → at (a .sheet′) x y ≡ bit (isRead x y (readsOf t r (a .photograph)))
+    pub copied : (a : Call) (x y : ℕ) → x < r .width → y < r .height
+        → at (a .copy′) x y ≡ (if isRead x y (readsOf t r (a .photograph)) then shown (a .photograph) x y else 0)
+    pub inside : (a : Call) (x y : ℕ) → isRead x y (readsOf t r (a .photograph)) ≡ true → (x < r .width) × (y < r .height)
+    -- and bytes past width × height are untouched
+    pub sheet-untouched : (a : Call) → drop (area r) (a .sheet′) ≡ drop (area r) (a .sheet)
+    pub copy-untouched : (a : Call) → drop (area r) (a .copy′) ≡ drop (area r) (a .copy)
+    -- 2. sheets and copies are both equal exactly when the second photograph has the first one's value at every pixel marked for the first
+    pub exactly-when : (a b : Call) → SameMarks a b ↔ AgreesWhereMarked a b
+    -- 3. then both return the same: number, corners, edge counts and flags
+    pub then-same : (a b : Call) → SameMarks a b → b .answer ≡ a .answer
+    -- 4. a call over the blanked copy returns the same, and leaves the same sheet and copy again
+    pub copy-returns : (a b : Call) → OverTheCopy a b → b .answer ≡ a .answer
+    pub copy-again : (a b : Call) → OverTheCopy a b → SameMarks a b
+    -- and the blanked copy passes the entry checks, with a sheet and a copy that are long enough
+    pub copy-passes : (a : Call) (q : Photograph) (s c : ℕ) → q .stride ≡ r .width → area r ≤ length (q .bytes) → area r ≤ s → area r ≤ c → markingEntry r q s c ≡ number.answer
