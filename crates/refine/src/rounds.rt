@@ -309,6 +309,37 @@ fn is_weak(answer: Answer) -> bool
     answer.number == number::THIN
 }
 
+// A round from an answer's corners.
+fn next_round(
+    settings: Settings,
+    bytes: &[u8],
+    stride: u32,
+    scene: Scene,
+    sheet: &mut [u8],
+    meter: Meter,
+    modules: &[u8],
+    dim: u32,
+    inverted: bool,
+    last: Answer,
+) -> Rounded
+    ensures { λ r. ⌜ Runs scene (photo (now (bytes .entry)) stride) (round settings (gridOf dim (now (modules .entry))) inverted (last .refined .corners)) (r .answer) (now (sheet .entry)) (now (sheet .exit)) meter (r .meter) ⌝ }
+{
+    let refined = last.refined;
+    let corners = refined.corners;
+    refine_round(
+        settings,
+        bytes,
+        stride,
+        scene,
+        sheet,
+        meter,
+        modules,
+        dim,
+        inverted,
+        corners,
+    )
+}
+
 // The rounds after the first, each from the corners of the last. A weak one ends them and leaves the answer
 // that there is, since that is still measured; the number of an edge ends the refinement.
 fn further_rounds(
@@ -329,9 +360,7 @@ fn further_rounds(
     let mut meter = meter;
     let mut round: u32 = 1;
     while round < settings.rounds {
-        let refined = answer.refined;
-        let corners = refined.corners;
-        let run = refine_round(
+        let run = next_round(
             settings,
             bytes,
             stride,
@@ -341,7 +370,7 @@ fn further_rounds(
             modules,
             dim,
             inverted,
-            corners,
+            answer,
         );
         let next = run.answer;
         meter = run.meter;

@@ -22,8 +22,8 @@ abbrev μ-loop : tie.MeasureT-loop
 loop-holds : tie.Need-loop-holds Inv-loop μ-loop
 loop-holds c = (refl, first-only _ _ _ _ _ _ _ _)
 
-refine-round-requires : tie.Need-refine-round-requires Inv-loop μ-loop
-refine-round-requires c κs = search needs
+next-round-requires : tie.Need-next-round-requires Inv-loop μ-loop
+next-round-requires c κs = search needs
 
 is-weak-requires : tie.Need-is-weak-requires Inv-loop μ-loop
 is-weak-requires c κs = search needs
@@ -31,32 +31,32 @@ is-weak-requires c κs = search needs
 same-length : tie.Need-same-length Inv-loop μ-loop
 same-length c =
     let ran = c .before .before .before .before .before .before in
-    let turn = ran .before .before .before .before in
-    ran .refine-round .kept .1 .1 .1 .1 .0 ∙ turn .before .before .loop .inv .0
+    let turn = ran .before .before in
+    ran .next-round .kept .1 .1 .1 .1 .0 ∙ turn .before .before .loop .inv .0
 
 returns : tie.Need-returns Inv-loop μ-loop
 returns c =
     let ran = c .before .before .before .before .before .before in
-    let turn = ran .before .before .before .before in
-    weak-round _ _ _ _ _ _ _ (turn .if1 .taken) (turn .before .before .loop .inv .1) (ran .refine-round .ensures) (c .before .is-weak .ensures) (c .if2 .taken)
+    let turn = ran .before .before in
+    weak-round _ _ _ _ _ _ _ (turn .if1 .taken) (turn .before .before .loop .inv .1) (ran .next-round .ensures) (c .before .is-weak .ensures) (c .if2 .taken)
 
 same-length-2 : tie.Need-same-length-2 Inv-loop μ-loop
 same-length-2 c =
     let weak = c .before .before in
     let ran = weak .before .before .before .before .before .before in
-    let turn = ran .before .before .before .before in
-    ran .refine-round .kept .1 .1 .1 .1 .0 ∙ turn .before .before .loop .inv .0
+    let turn = ran .before .before in
+    ran .next-round .kept .1 .1 .1 .1 .0 ∙ turn .before .before .loop .inv .0
 
 returns-2 : tie.Need-returns-2 Inv-loop μ-loop
 returns-2 c =
     let weak = c .before .before in
     let ran = weak .before .before .before .before .before .before in
-    let turn = ran .before .before .before .before in
-    round-stops _ _ _ _ _ _ _ (turn .if1 .taken) (turn .before .before .loop .inv .1) (ran .refine-round .ensures) (weak .before .is-weak .ensures) (weak .if2 .left) (c .if3 .taken)
+    let turn = ran .before .before in
+    round-stops _ _ _ _ _ _ _ (turn .if1 .taken) (turn .before .before .loop .inv .1) (ran .next-round .ensures) (weak .before .is-weak .ensures) (weak .if2 .left) (c .if3 .taken)
 
 add-round : tie.Need-add-round Inv-loop μ-loop
 add-round c =
-    let turn = c .before .before .before .before .before .before .before .before .before .before .before .before in
+    let turn = c .before .before .before .before .before .before .before .before .before .before in
     omega (arith, turn .before .struct-known .given, turn .if1 .taken)
 
 loop-less : tie.Need-loop-less Inv-loop μ-loop
@@ -66,9 +66,9 @@ loop-again : tie.Need-loop-again Inv-loop μ-loop
 loop-again c =
     let weak = c .before .before in
     let ran = weak .before .before .before .before .before .before in
-    let turn = ran .before .before .before .before in (
-      ran .refine-round .kept .1 .1 .1 .1 .0 ∙ turn .before .before .loop .inv .0,
-      next-round _ _ _ _ _ _ _ (turn .if1 .taken) (turn .before .before .loop .inv .1) (ran .refine-round .ensures) (weak .before .is-weak .ensures) (weak .if2 .left) (c .if3 .left),
+    let turn = ran .before .before in (
+      ran .next-round .kept .1 .1 .1 .1 .0 ∙ turn .before .before .loop .inv .0,
+      next-round _ _ _ _ _ _ _ (turn .if1 .taken) (turn .before .before .loop .inv .1) (ran .next-round .ensures) (weak .before .is-weak .ensures) (weak .if2 .left) (c .if3 .left),
     )
 
 same-length-3 : tie.Need-same-length-3 Inv-loop μ-loop
@@ -84,7 +84,7 @@ further-rounds-spec =
     Inv-loop
     μ-loop
     loop-holds
-    refine-round-requires
+    next-round-requires
     is-weak-requires
     same-length
     returns
