@@ -2,6 +2,7 @@
 pub mod Bytes
 pub mod Walks
 pub mod Parts
+pub mod Asked
 pub mod Writes
 pub mod Buffers
 pub mod Answers

@@ -1,9 +1,8 @@
-// A job card, run: without marking, as the printing program does.
+// A job card, run without marking, as the printing program does; and what a card asks for, which both runs share.
 ghost use mathlib.Core.Path.{_≡_};
 ghost use Prim.Native.Nat.{_<_};
 ghost use lib.ListN.{drop};
-ghost use Rattle.consts.specs.Consts.{defaults};
-ghost use Rattle.refine.specs.Refine.{refine};
+ghost use Rattle.cards.specs.Fields.{numberAt};
 ghost use Rattle.cards.specs.JobCard.{
   workingAt,
   intrinsicsAt,
@@ -12,9 +11,9 @@ ghost use Rattle.cards.specs.JobCard.{
   fieldPart,
   cornersOf,
   requestFrom,
-  photographFrom,
   jobAnswer,
 };
+ghost use Rattle.cards.specs.Asks.{requestBy, Asks};
 ghost use Rattle.cards.specs.ResultCard.{runNumber, runLeaves};
 use crate::fields::byte_at;
 use crate::fields::float_at;
@@ -31,8 +30,21 @@ use pixel::WorkingPixel;
 use refine::Answer;
 use sampling::View;
 
+// What a card asks for, but for the photograph's bytes and the modules: these are lent as they lie in the card.
+pub(crate) struct Asked {
+    pub(crate) width: u32,
+    pub(crate) height: u32,
+    pub(crate) stride: u32,
+    pub(crate) dim: u32,
+    pub(crate) sx: f64,
+    pub(crate) sy: f64,
+    pub(crate) corners: [WorkingPixel; 4],
+    pub(crate) inverted: bool,
+    pub(crate) view: View,
+}
+
 // A field's part. Its number is 0 wherever this is called: the card is well formed.
-fn part<'a>(card: &'a [u8], tag: u8) -> &'a [u8]
+pub(crate) fn part<'a>(card: &'a [u8], tag: u8) -> &'a [u8]
     ensures { λ r. ⌜ now r ≡ fieldPart (now (card .entry)) tag ⌝ }
 {
     let mut number: u32 = number::ANSWER;
@@ -40,7 +52,7 @@ fn part<'a>(card: &'a [u8], tag: u8) -> &'a [u8]
 }
 
 // What is behind the first byte.
-fn behind_first<'a>(s: &'a [u8]) -> &'a [u8]
+pub(crate) fn behind_first<'a>(s: &'a [u8]) -> &'a [u8]
     ensures { λ r. ⌜ now r ≡ drop 1 (now (s .entry)) ⌝ }
 {
     if s.len() < 1 {
@@ -110,34 +122,42 @@ fn view_of(card: &[u8]) -> View
     })
 }
 
-// The job of a card's fields.
-fn run_fields(
+// What the contents of the fields 1 and 3 to 6 ask for.
+fn asked_from(
     size: &[u8],
-    photo: &[u8],
     grid: &[u8],
     scale: &[u8],
     corners: &[u8],
     polarity: &[u8],
     view: View,
-) -> Answer
-    ensures { λ r. ⌜
-        r ≡ refine defaults
-        (requestFrom (now (size .entry)) (now (grid .entry)) (now (scale .entry)) (now (corners .entry)) (now (polarity .entry)) view)
-        (photographFrom (now (size .entry)) (now (photo .entry)))
-        ⌝ }
+) -> Asked
+    ensures { λ r. ⌜ requestBy r (drop 1 (now (grid .entry))) ≡ requestFrom (now (size .entry)) (now (grid .entry)) (now (scale .entry)) (now (corners .entry)) (now (polarity .entry)) view ⌝ }
+    ensures { λ r. ⌜ r .stride ≡ numberAt 2 (now (size .entry)) 4 ⌝ }
 {
-    refine::refine_corners_mapped(
-        photo,
-        number_at(size, 0, 2) as u32,
-        number_at(size, 2, 2) as u32,
-        number_at(size, 4, 2) as u32,
-        behind_first(grid),
-        byte_at(grid, 0) as u32,
-        float_at(scale, 0),
-        float_at(scale, 8),
-        corners_of(corners),
-        byte_at(polarity, 0) == 1,
+    Asked {
+        width: number_at(size, 0, 2) as u32,
+        height: number_at(size, 2, 2) as u32,
+        stride: number_at(size, 4, 2) as u32,
+        dim: byte_at(grid, 0) as u32,
+        sx: float_at(scale, 0),
+        sy: float_at(scale, 8),
+        corners: corners_of(corners),
+        inverted: byte_at(polarity, 0) == 1,
         view,
+    }
+}
+
+// What a well formed card asks for.
+pub(crate) fn asked_of(card: &[u8]) -> Asked
+    ensures { λ r. ⌜ Asks (now (card .entry)) r ⌝ }
+{
+    asked_from(
+        part(card, 1),
+        part(card, 3),
+        part(card, 4),
+        part(card, 5),
+        part(card, 6),
+        view_of(card),
     )
 }
 
@@ -148,14 +168,21 @@ pub fn run_job(card: &[u8]) -> Answer
     if !is_good(card) {
         return refine::refused(number::CARD);
     }
-    run_fields(
-        part(card, 1),
+    let asked = asked_of(card);
+    let corners = asked.corners;
+    let view = asked.view;
+    refine::refine_corners_mapped(
         part(card, 2),
-        part(card, 3),
-        part(card, 4),
-        part(card, 5),
-        part(card, 6),
-        view_of(card),
+        asked.width,
+        asked.height,
+        asked.stride,
+        behind_first(part(card, 3)),
+        asked.dim,
+        asked.sx,
+        asked.sy,
+        corners,
+        asked.inverted,
+        view,
     )
 }
 

@@ -1,6 +1,6 @@
 // Job cards and result cards: fields of a tag byte, a two-byte length and contents, little-endian.
 mod fields; // fields.rt: numbers and floats in bytes
-mod job; // job.rt: a job card, run
+mod job; // job.rt: what a job card asks for, and a card run
 mod job_card; // job_card.rt: the fields of a job card
 mod result_card; // result_card.rt: the result card
 

@@ -1,8 +1,9 @@
--- `cards::job::run_job` meets its contract: a malformed card is refused, and the fields of another one are run. Assumes nothing.
+-- `cards::job::run_job` meets its contract: a malformed card is refused, and what another one asks for is run. Assumes nothing.
 use mathlib.Core.Path.{sym, _∙_}
 use borrow.Author.Tests.{not-true, not-false}
 use borrow.Author.Needs.{needs}
-use Rattle.cards.specs.JobCard.{requestOf, photographOf, jobAnswer}
+use Rattle.cards.specs.JobCard.{jobAnswer}
+use Rattle.cards.proofs.Asked.{asked-request, asked-photograph}
 use Rattle.cards.proofs.job.run_job.Statement.{statement}
 use Rattle.cards.proofs.job.run_job.Tie as tie
 
@@ -18,40 +19,31 @@ returns c =
     let bad = sym (c .before .before .is-good .ensures) ∙ not-true _ (c .before .if1 .taken) in
     rw bad (c .refused .ensures)
 
+asked-of-requires : tie.Need-asked-of-requires
+asked-of-requires c κs = search needs
+
 part-requires : tie.Need-part-requires
 part-requires c κs = search needs
 
 part-requires-2 : tie.Need-part-requires-2
 part-requires-2 c κs = search needs
 
-part-requires-3 : tie.Need-part-requires-3
-part-requires-3 c κs = search needs
+behind-first-requires : tie.Need-behind-first-requires
+behind-first-requires c κs = search needs
 
-part-requires-4 : tie.Need-part-requires-4
-part-requires-4 c κs = search needs
-
-part-requires-5 : tie.Need-part-requires-5
-part-requires-5 c κs = search needs
-
-part-requires-6 : tie.Need-part-requires-6
-part-requires-6 c κs = search needs
-
-view-of-requires : tie.Need-view-of-requires
-view-of-requires c κs = search needs
-
-run-fields-requires : tie.Need-run-fields-requires
-run-fields-requires c κs = search needs
+refine-corners-mapped-requires : tie.Need-refine-corners-mapped-requires
+refine-corners-mapped-requires c κs = search needs
 
 returns-2 : tie.Need-returns-2
-unfolding requestOf photographOf jobAnswer
+unfolding jobAnswer
 returns-2 c =
-    let six = c .before .before in
-    let four = six .before .before in
-    let two = four .before .before in
-    let at-if = two .before .before in
+    let parts = c .before in
+    let asked = parts .before .before .before .before in
+    let at-if = asked .before in
     let good = sym (at-if .before .is-good .ensures) ∙ not-false _ (at-if .if1 .left) in
-    rw (good, ← (two .before .part .ensures), ← (two .part2 .ensures), ← (four .before .part3 .ensures), ← (four .part4 .ensures), ← (six .before .part5 .ensures), ← (six .part6 .ensures), ← (c .before .view-of .ensures))
-    (c .run-fields .ensures)
+    let asks = asked .asked-of .ensures in
+    rw (good, ← (asked-request _ _ asks _ _ (parts .before .part2 .ensures) (parts .behind-first .ensures)), ← (asked-photograph _ _ asks _ (parts .before .before .part .ensures)))
+    (c .refine-corners-mapped .ensures)
 
 pub run-job-spec : {M : Type 1} → statement M
 run-job-spec =
@@ -60,12 +52,9 @@ run-job-spec =
     is-good-requires
     refused-requires
     returns
+    asked-of-requires
     part-requires
     part-requires-2
-    part-requires-3
-    part-requires-4
-    part-requires-5
-    part-requires-6
-    view-of-requires
-    run-fields-requires
+    behind-first-requires
+    refine-corners-mapped-requires
     returns-2)
