@@ -2,4 +2,5 @@
 pub mod Fields
 pub mod JobCard
 pub mod Asks
+pub mod JobMarking
 pub mod ResultCard

@@ -1,0 +1,64 @@
+-- `cards::job_marking::run_job_marking` meets its contract: a malformed card is refused, and what another one asks for is run. Assumes nothing.
+use mathlib.Core.Path.{sym, _∙_}
+use borrow.Author.Tests.{not-true, not-false}
+use borrow.Author.Needs.{needs}
+use Rattle.cards.proofs.Asked.{asked-request, asked-photograph}
+use Rattle.cards.proofs.Marked.{malformed-marks, asked-marks}
+use Rattle.cards.proofs.job_marking.run_job_marking.Statement.{statement}
+use Rattle.cards.proofs.job_marking.run_job_marking.Tie as tie
+
+is-good-requires : tie.Need-is-good-requires
+is-good-requires c κs = search needs
+
+refused-requires : tie.Need-refused-requires
+refused-requires c κs = search needs
+
+returns : tie.Need-returns
+returns c =
+    malformed-marks _ _ _ _ (sym (c .before .before .is-good .ensures) ∙ not-true _ (c .before .if1 .taken)) (c .refused .ensures)
+
+asked-of-requires : tie.Need-asked-of-requires
+asked-of-requires c κs = search needs
+
+part-requires : tie.Need-part-requires
+part-requires c κs = search needs
+
+part-requires-2 : tie.Need-part-requires-2
+part-requires-2 c κs = search needs
+
+behind-first-requires : tie.Need-behind-first-requires
+behind-first-requires c κs = search needs
+
+refine-corners-mapped-marking-requires : tie.Need-refine-corners-mapped-marking-requires
+refine-corners-mapped-marking-requires c κs = search needs
+
+same-length : tie.Need-same-length
+same-length c = search needs
+
+same-length-2 : tie.Need-same-length-2
+same-length-2 c = search needs
+
+returns-2 : tie.Need-returns-2
+returns-2 c =
+    let ran = c .before .before .before .before in
+    let parts = ran .before .before .before in
+    let asked = parts .before .before .before .before in
+    let at-if = asked .before in
+    let asks = asked .asked-of .ensures in
+    asked-marks _ _ _ _ _ _ _ _ (sym (at-if .before .is-good .ensures) ∙ not-false _ (at-if .if1 .left)) (asked-request _ _ asks _ _ (parts .before .part2 .ensures) (parts .behind-first .ensures)) (asked-photograph _ _ asks _ (parts .before .before .part .ensures)) (ran .refine-corners-mapped-marking .ensures)
+
+pub run-job-marking-spec : {M : Type 1} → statement M
+run-job-marking-spec =
+    tie.close
+    (tie.spec
+    is-good-requires
+    refused-requires
+    returns
+    asked-of-requires
+    part-requires
+    part-requires-2
+    behind-first-requires
+    refine-corners-mapped-marking-requires
+    same-length
+    same-length-2
+    returns-2)
