@@ -2,12 +2,11 @@
 use crate::compare;
 use crate::families;
 use crate::job::{Camera, Job};
-use crate::oracle::{self, Outcome};
+use crate::oracle::{self, Outcome, Seen};
 use std::collections::BTreeMap;
 use std::io::Write;
 
 const LARGEST: usize = 9000;
-const OF_EACH: usize = 2;
 
 fn field(card: &mut Vec<u8>, tag: u8, contents: &[u8]) {
     card.push(tag);
@@ -104,10 +103,36 @@ fn lines(o: &Outcome) -> String {
     text
 }
 
+/// FNV-1a of 64 bits.
+fn digest(bytes: impl Iterator<Item = u8>) -> u64 {
+    bytes.fold(0xcbf2_9ce4_8422_2325, |h, b| (h ^ b as u64).wrapping_mul(0x100_0000_01b3))
+}
+
+/// How many pixels the Rust read, and digests of the mark sheet and the blanked copy that this makes; empty where an entry check refuses.
+fn marks(job: &Job, seen: &Seen) -> String {
+    if seen.sheet.is_empty() {
+        return String::new();
+    }
+    let (width, stride) = (job.width as usize, job.stride as usize);
+    let copy = seen.sheet.iter().enumerate().map(|(i, &mark)| mark * job.bytes[i / width * stride + i % width]);
+    let count: usize = seen.sheet.iter().map(|&mark| mark as usize).sum();
+    format!("marks {count} {:016x} {:016x}\n", digest(seen.sheet.iter().copied()), digest(copy))
+}
+
+pub struct Options<'a> {
+    pub seeds: u64,
+    /// how many cards of each way to end, the shortest
+    pub of_each: usize,
+    /// tell what was read too: a stride above the width is a way of its own then, and the ways of an entry check are one
+    pub marks: bool,
+    pub list: &'a str,
+    pub answers: &'a str,
+}
+
 /// Writes each card, behind its length in three bytes, to the file `list`, and the answers' lines to the file `answers`.
-pub fn run(seeds: u64, list: &str, answers: &str) -> bool {
-    let mut kept: BTreeMap<(u32, bool, bool, String), Vec<(Vec<u8>, String)>> = BTreeMap::new();
-    for seed in 0..seeds {
+pub fn run(options: &Options) -> bool {
+    let mut kept: BTreeMap<(u32, bool, bool, String, bool), Vec<(Vec<u8>, String)>> = BTreeMap::new();
+    for seed in 0..options.seeds {
         let job = families::job(seed, None);
         let Some(card) = card(&job) else { continue };
         let Ok(seen) = oracle::judge(&job) else { continue };
@@ -116,11 +141,16 @@ pub fn run(seeds: u64, list: &str, answers: &str) -> bool {
         if o.number == 0 && o.corners.as_flattened().contains(&0.0) {
             continue;
         }
-        let key = (o.number, job.camera.is_some(), job.inverted, compare::way(&seen));
+        let wide = options.marks && job.stride > job.width;
+        let mut key = (o.number, job.camera.is_some(), job.inverted, compare::way(&seen), wide);
+        if options.marks && seen.sheet.is_empty() {
+            key = (o.number, false, false, String::new(), false);
+        }
+        let told = if options.marks { lines(o) + &marks(&job, &seen) } else { lines(o) };
         let cards = kept.entry(key).or_default();
-        cards.push((card, lines(o)));
+        cards.push((card, told));
         cards.sort_by_key(|c| c.0.len());
-        cards.truncate(OF_EACH);
+        cards.truncate(options.of_each);
     }
     let (mut cards, mut text) = (Vec::new(), String::new());
     for (card, lines) in kept.into_values().flatten() {
@@ -130,5 +160,5 @@ pub fn run(seeds: u64, list: &str, answers: &str) -> bool {
         text += "\n";
     }
     let write = |path: &str, bytes: &[u8]| std::fs::File::create(path).and_then(|mut f| f.write_all(bytes));
-    write(list, &cards).and(write(answers, text.as_bytes())).is_ok()
+    write(options.list, &cards).and(write(options.answers, text.as_bytes())).is_ok()
 }

@@ -16,7 +16,7 @@ const HELP: &str = "judge jobs [--seeds N] [--from SEED] [--family NAME] [--ways
 judge job SEED [--family NAME]
 judge leaves [--calls N] [--from SEED]
 judge bench [--photographs N] [--repeats N] [--width N] [--dim N] [--lens yes|no] [--side rust|port]
-judge cards LIST ANSWERS [--seeds N]
+judge cards LIST ANSWERS [--seeds N] [--of-each N] [--marks]
 judge card FILE";
 
 /// The value behind a word, if the word is there.
@@ -49,7 +49,13 @@ fn main() {
             dim: value(&words, "--dim"),
             lens: value(&words, "--lens"),
         }),
-        Some("cards") if words.len() > 2 => cards::run(number(&words, "--seeds", 4000), &words[1], &words[2]),
+        Some("cards") if words.len() > 2 => cards::run(&cards::Options {
+            seeds: number(&words, "--seeds", 4000),
+            of_each: number(&words, "--of-each", 2) as usize,
+            marks: words.iter().any(|w| w == "--marks"),
+            list: &words[1],
+            answers: &words[2],
+        }),
         Some("card") if words.len() > 1 => cards::one(&words[1]),
         _ => {
             println!("{HELP}");
