@@ -42,8 +42,9 @@ returns-2 c =
     let at-if = asked .before in
     let good = sym (at-if .before .is-good .ensures) ∙ not-false _ (at-if .if1 .left) in
     let asks = asked .asked-of .ensures in
-    rw (good, ← (asked-request _ _ asks _ _ (parts .before .part2 .ensures) (parts .behind-first .ensures)), ← (asked-photograph _ _ asks _ (parts .before .before .part .ensures)))
-    (c .refine-corners-mapped .ensures)
+    let request = asked-request _ _ asks _ _ (parts .before .part2 .ensures) (parts .behind-first .ensures) in
+    let photograph = asked-photograph _ _ asks _ (parts .before .before .part .ensures) in
+    rw (good, ← request, ← photograph) (c .refine-corners-mapped .ensures)
 
 pub run-job-spec : {M : Type 1} → statement M
 run-job-spec =

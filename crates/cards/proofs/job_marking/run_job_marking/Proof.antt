@@ -15,7 +15,8 @@ refused-requires c κs = search needs
 
 returns : tie.Need-returns
 returns c =
-    malformed-marks _ _ _ _ (sym (c .before .before .is-good .ensures) ∙ not-true _ (c .before .if1 .taken)) (c .refused .ensures)
+    let bad = sym (c .before .before .is-good .ensures) ∙ not-true _ (c .before .if1 .taken) in
+    malformed-marks _ _ _ _ bad (c .refused .ensures)
 
 asked-of-requires : tie.Need-asked-of-requires
 asked-of-requires c κs = search needs
@@ -45,7 +46,10 @@ returns-2 c =
     let asked = parts .before .before .before .before in
     let at-if = asked .before in
     let asks = asked .asked-of .ensures in
-    asked-marks _ _ _ _ _ _ _ _ (sym (at-if .before .is-good .ensures) ∙ not-false _ (at-if .if1 .left)) (asked-request _ _ asks _ _ (parts .before .part2 .ensures) (parts .behind-first .ensures)) (asked-photograph _ _ asks _ (parts .before .before .part .ensures)) (ran .refine-corners-mapped-marking .ensures)
+    let good = sym (at-if .before .is-good .ensures) ∙ not-false _ (at-if .if1 .left) in
+    let request = asked-request _ _ asks _ _ (parts .before .part2 .ensures) (parts .behind-first .ensures) in
+    let photograph = asked-photograph _ _ asks _ (parts .before .before .part .ensures) in
+    asked-marks _ _ _ _ _ _ _ _ good request photograph (ran .refine-corners-mapped-marking .ensures)
 
 pub run-job-marking-spec : {M : Type 1} → statement M
 run-job-marking-spec =
