@@ -123,7 +123,8 @@ pub struct Options<'a> {
     pub seeds: u64,
     /// how many cards of each way to end, the shortest
     pub of_each: usize,
-    /// tell what was read too: a stride above the width is a way of its own then, and the ways of an entry check are one
+    /// tell what was read too: that anything was, and a stride above the width, are ways of their own then. Where nothing was read
+    /// stride and polarity are none
     pub marks: bool,
     pub list: &'a str,
     pub answers: &'a str,
@@ -131,7 +132,7 @@ pub struct Options<'a> {
 
 /// Writes each card, behind its length in three bytes, to the file `list`, and the answers' lines to the file `answers`.
 pub fn run(options: &Options) -> bool {
-    let mut kept: BTreeMap<(u32, bool, bool, String, bool), Vec<(Vec<u8>, String)>> = BTreeMap::new();
+    let mut kept: BTreeMap<(u32, bool, bool, String, bool, bool), Vec<(Vec<u8>, String)>> = BTreeMap::new();
     for seed in 0..options.seeds {
         let job = families::job(seed, None);
         let Some(card) = card(&job) else { continue };
@@ -141,11 +142,9 @@ pub fn run(options: &Options) -> bool {
         if o.number == 0 && o.corners.as_flattened().contains(&0.0) {
             continue;
         }
+        let read = !options.marks || seen.sheet.contains(&1);
         let wide = options.marks && job.stride > job.width;
-        let mut key = (o.number, job.camera.is_some(), job.inverted, compare::way(&seen), wide);
-        if options.marks && seen.sheet.is_empty() {
-            key = (o.number, false, false, String::new(), false);
-        }
+        let key = (o.number, job.camera.is_some(), read && job.inverted, compare::way(&seen), read, read && wide);
         let told = if options.marks { lines(o) + &marks(&job, &seen) } else { lines(o) };
         let cards = kept.entry(key).or_default();
         cards.push((card, told));
