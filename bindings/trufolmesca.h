@@ -14,6 +14,8 @@
      places   as corners, in source pixels
      counts   for each of the four edges probed, fit, dropped, valid; then four flags: 20 numbers
      point    x, y, weight
+     sheet    a byte a pixel in rows of width bytes: 1 where the pixel was read, 0 where not
+     copy     the photograph in rows of width bytes, with 0 for each pixel that was not read
  */
 #ifndef TRUFOLMESCA_H
 #define TRUFOLMESCA_H
@@ -66,6 +68,23 @@ uint32_t trufolmesca_refine_corners_mapped(
     const double *corners, size_t corners_len, bool inverted,
     const double *camera, size_t camera_len, bool lens,
     double *places, size_t places_len, uint32_t *counts, size_t counts_len);
+
+/* The same two, marked. Sheet and copy are width x height bytes or more: with less it is 7, behind 1 to 6. Refused by 1 to 7 a call
+   leaves both as they were; otherwise, refused or not, it writes the first width x height bytes of both and nothing behind them,
+   also where places or counts are too short for the answer. */
+uint32_t trufolmesca_refine_corners_marking(
+    const uint8_t *bytes, size_t bytes_len, uint32_t width, uint32_t height, uint32_t stride,
+    const uint8_t *modules, size_t modules_len, uint32_t dim, double sx, double sy,
+    const double *corners, size_t corners_len, bool inverted,
+    double *places, size_t places_len, uint32_t *counts, size_t counts_len,
+    uint8_t *sheet, size_t sheet_len, uint8_t *copy, size_t copy_len);
+uint32_t trufolmesca_refine_corners_mapped_marking(
+    const uint8_t *bytes, size_t bytes_len, uint32_t width, uint32_t height, uint32_t stride,
+    const uint8_t *modules, size_t modules_len, uint32_t dim, double sx, double sy,
+    const double *corners, size_t corners_len, bool inverted,
+    const double *camera, size_t camera_len, bool lens,
+    double *places, size_t places_len, uint32_t *counts, size_t counts_len,
+    uint8_t *sheet, size_t sheet_len, uint8_t *copy, size_t copy_len);
 
 /* The sample at x, y. border: 0 rejects what lies outside, 1 clamps it, any other answers it with the constant. 1, 2, 17. */
 uint32_t trufolmesca_sample_bilinear(

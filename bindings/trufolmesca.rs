@@ -46,6 +46,55 @@ mod c {
             counts: *mut u32,
             counts_len: usize,
         ) -> u32;
+        pub fn trufolmesca_refine_corners_marking(
+            bytes: *const u8,
+            bytes_len: usize,
+            width: u32,
+            height: u32,
+            stride: u32,
+            modules: *const u8,
+            modules_len: usize,
+            dim: u32,
+            sx: f64,
+            sy: f64,
+            corners: *const f64,
+            corners_len: usize,
+            inverted: bool,
+            places: *mut f64,
+            places_len: usize,
+            counts: *mut u32,
+            counts_len: usize,
+            sheet: *mut u8,
+            sheet_len: usize,
+            copy: *mut u8,
+            copy_len: usize,
+        ) -> u32;
+        pub fn trufolmesca_refine_corners_mapped_marking(
+            bytes: *const u8,
+            bytes_len: usize,
+            width: u32,
+            height: u32,
+            stride: u32,
+            modules: *const u8,
+            modules_len: usize,
+            dim: u32,
+            sx: f64,
+            sy: f64,
+            corners: *const f64,
+            corners_len: usize,
+            inverted: bool,
+            camera: *const f64,
+            camera_len: usize,
+            lens: bool,
+            places: *mut f64,
+            places_len: usize,
+            counts: *mut u32,
+            counts_len: usize,
+            sheet: *mut u8,
+            sheet_len: usize,
+            copy: *mut u8,
+            copy_len: usize,
+        ) -> u32;
         pub fn trufolmesca_sample_bilinear(
             bytes: *const u8,
             bytes_len: usize,
@@ -256,6 +305,83 @@ pub fn refine_corners(
                     places.len(),
                     counts.as_mut_ptr(),
                     counts.len(),
+                )
+            }
+        }
+    };
+    answer(number, &places, &counts)
+}
+
+/// The same, marked: the sheet is 1 at each pixel that was read, and the copy is the photograph with 0 at all others, both in rows of
+/// `width` bytes. With less than `width` × `height` bytes it is 7. Refused by 1 to 7 it leaves both; otherwise, refused or not, it
+/// writes their first `width` × `height` bytes.
+pub fn refine_corners_marking(
+    p: Photograph,
+    grid: Grid,
+    scale: [f64; 2],
+    corners: &[[f64; 2]; 4],
+    inverted: bool,
+    camera: Option<&Camera>,
+    sheet: &mut [u8],
+    copy: &mut [u8],
+) -> Answer {
+    let corners = corners.as_flattened();
+    let (mut places, mut counts) = ([f64::NAN; 8], [u32::MAX; 20]);
+    // As above; sheet and copy are borrowed alone, so they overlap nothing.
+    let number = match camera {
+        None => unsafe {
+            c::trufolmesca_refine_corners_marking(
+                p.bytes.as_ptr(),
+                p.bytes.len(),
+                p.width,
+                p.height,
+                p.stride,
+                grid.modules.as_ptr(),
+                grid.modules.len(),
+                grid.dim,
+                scale[0],
+                scale[1],
+                corners.as_ptr(),
+                corners.len(),
+                inverted,
+                places.as_mut_ptr(),
+                places.len(),
+                counts.as_mut_ptr(),
+                counts.len(),
+                sheet.as_mut_ptr(),
+                sheet.len(),
+                copy.as_mut_ptr(),
+                copy.len(),
+            )
+        },
+        Some(camera) => {
+            let (numbers, lens) = camera.numbers();
+            unsafe {
+                c::trufolmesca_refine_corners_mapped_marking(
+                    p.bytes.as_ptr(),
+                    p.bytes.len(),
+                    p.width,
+                    p.height,
+                    p.stride,
+                    grid.modules.as_ptr(),
+                    grid.modules.len(),
+                    grid.dim,
+                    scale[0],
+                    scale[1],
+                    corners.as_ptr(),
+                    corners.len(),
+                    inverted,
+                    numbers.as_ptr(),
+                    numbers.len(),
+                    lens,
+                    places.as_mut_ptr(),
+                    places.len(),
+                    counts.as_mut_ptr(),
+                    counts.len(),
+                    sheet.as_mut_ptr(),
+                    sheet.len(),
+                    copy.as_mut_ptr(),
+                    copy.len(),
                 )
             }
         }

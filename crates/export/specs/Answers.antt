@@ -16,7 +16,8 @@ use Rattle.sampling.specs.declared.View.{View}
 use Rattle.refine.specs.declared.RefinedCorners.{RefinedCorners}
 use Rattle.refine.specs.declared.Answer.{Answer}
 use Rattle.refine.specs.Rounds.{noStat}
-use Rattle.refine.specs.Refine.{photograph, refine, request}
+use Rattle.refine.specs.Refine.{Request, Photograph, photograph, refine, request}
+use Rattle.marking.specs.Marking.{refineMarking, sheetAfter, copyAfter}
 use Rattle.export.specs.Lent.{floatAt, withPlaceAt}
 
 abbrev pub workingAt : List Float → ℕ → WorkingPixel
@@ -57,10 +58,20 @@ pub record Written (a : Answer) (n : ℕ) (p p′ : List Float) (c c′ : List �
   pub places : p′ ≡ withCorners (a .refined .corners) p
   pub counts : c′ ≡ withCounts (a .refined) c
 
--- what the refinement makes of what is lent
+-- what is asked by what is lent
+abbrev pub lentRequest : (width height : ℕ) (modules : List ℕ) (dim : ℕ) (sx sy : Float) (corners : List Float) (inverted : Bool) → View → Request
+lentRequest width height modules dim sx sy corners inverted view = request width height (gridOf dim modules) sx sy (workingOf corners) inverted view
+
+-- what the refinement makes of it
 unfoldable pub lentJob : (bytes : List ℕ) (width height stride : ℕ) (modules : List ℕ) (dim : ℕ) (sx sy : Float) (corners : List Float) (inverted : Bool) → View → Answer
 lentJob bytes width height stride modules dim sx sy corners inverted view =
-    refine defaults (request width height (gridOf dim modules) sx sy (workingOf corners) inverted view) (photograph bytes stride)
+    refine defaults (lentRequest width height modules dim sx sy corners inverted view) (photograph bytes stride)
+
+-- The marking calls: the answer is written as above, and the sheet goes from s to s′ and the copy from k to k′ as it says, also where places or counts are too short for it.
+pub record WrittenMarked (r : Request) (f : Photograph) (n : ℕ) (p p′ : List Float) (c c′ s s′ k k′ : List ℕ) : Type 0 where
+  pub answer : Written (refineMarking defaults r f s k) n p p′ c c′
+  pub sheet : s′ ≡ sheetAfter defaults r f s k
+  pub copy : k′ ≡ copyAfter defaults r f s k
 
 -- all of the above, for a proof that computes with them: to unfold this is to unfold what its line names
 unfoldable pub opened : Unit {0}

@@ -1,7 +1,8 @@
 // The refinement calls.
 ghost use Rattle.sampling.specs.declared.View.the-variants.{Plain, Calibrated};
 ghost use Rattle.export.specs.Lent.{cameraOf};
-ghost use Rattle.export.specs.Answers.{lentJob, Written};
+ghost use Rattle.refine.specs.Refine.{photograph};
+ghost use Rattle.export.specs.Answers.{lentRequest, lentJob, Written, WrittenMarked};
 use sampling::View;
 
 #[no_mangle]
@@ -70,6 +71,86 @@ pub extern "C" fn trufolmesca_refine_corners_mapped(
         q,
         inverted,
         view,
+    );
+    crate::answers::put_answer(a, places, counts)
+}
+
+// ---- the same, marked: sheet and copy are lent width × height bytes or more, in rows of width bytes
+
+#[no_mangle]
+pub extern "C" fn trufolmesca_refine_corners_marking(
+    bytes: &[u8],
+    width: u32,
+    height: u32,
+    stride: u32,
+    modules: &[u8],
+    dim: u32,
+    sx: f64,
+    sy: f64,
+    corners: &[f64],
+    inverted: bool,
+    places: &mut [f64],
+    counts: &mut [u32],
+    sheet: &mut [u8],
+    copy: &mut [u8],
+) -> u32
+    ensures { λ r. ⌜ WrittenMarked (lentRequest width height (now (modules .entry)) dim sx sy (now (corners .entry)) inverted Plain) (photograph (now (bytes .entry)) stride) r (now (places .entry)) (now (places .exit)) (now (counts .entry)) (now (counts .exit)) (now (sheet .entry)) (now (sheet .exit)) (now (copy .entry)) (now (copy .exit)) ⌝ }
+{
+    let q = crate::answers::working_of(corners);
+    let a = marking::refine_corners_marking(
+        bytes,
+        width,
+        height,
+        stride,
+        modules,
+        dim,
+        sx,
+        sy,
+        q,
+        inverted,
+        sheet,
+        copy,
+    );
+    crate::answers::put_answer(a, places, counts)
+}
+
+#[no_mangle]
+pub extern "C" fn trufolmesca_refine_corners_mapped_marking(
+    bytes: &[u8],
+    width: u32,
+    height: u32,
+    stride: u32,
+    modules: &[u8],
+    dim: u32,
+    sx: f64,
+    sy: f64,
+    corners: &[f64],
+    inverted: bool,
+    camera: &[f64],
+    lens: bool,
+    places: &mut [f64],
+    counts: &mut [u32],
+    sheet: &mut [u8],
+    copy: &mut [u8],
+) -> u32
+    ensures { λ r. ⌜ WrittenMarked (lentRequest width height (now (modules .entry)) dim sx sy (now (corners .entry)) inverted (Calibrated (cameraOf (now (camera .entry)) lens))) (photograph (now (bytes .entry)) stride) r (now (places .entry)) (now (places .exit)) (now (counts .entry)) (now (counts .exit)) (now (sheet .entry)) (now (sheet .exit)) (now (copy .entry)) (now (copy .exit)) ⌝ }
+{
+    let q = crate::answers::working_of(corners);
+    let view = View::Calibrated(crate::lent::camera_of(camera, lens));
+    let a = marking::refine_corners_mapped_marking(
+        bytes,
+        width,
+        height,
+        stride,
+        modules,
+        dim,
+        sx,
+        sy,
+        q,
+        inverted,
+        view,
+        sheet,
+        copy,
     );
     crate::answers::put_answer(a, places, counts)
 }

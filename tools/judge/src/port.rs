@@ -1,4 +1,4 @@
-//! The port, through the bindings that other programs use. `None` stands for a call that the archive lacks.
+//! The port, through the bindings that other programs use. `None` where there is no port to call.
 use crate::job::{Camera, Job};
 use crate::oracle::Outcome;
 
@@ -15,10 +15,13 @@ fn photograph(job: &Job) -> Photograph<'_> {
     Photograph { bytes: &job.bytes, width: job.width, height: job.height, stride: job.stride }
 }
 
+fn grid(job: &Job) -> trufolmesca::Grid<'_> {
+    trufolmesca::Grid { modules: &job.modules, dim: job.dim }
+}
+
 fn answered(job: &Job) -> trufolmesca::Answer {
-    let grid = trufolmesca::Grid { modules: &job.modules, dim: job.dim };
     let camera = job.camera.as_ref().map(camera);
-    trufolmesca::refine_corners(photograph(job), grid, [job.sx, job.sy], &job.corners, job.inverted, camera.as_ref())
+    trufolmesca::refine_corners(photograph(job), grid(job), [job.sx, job.sy], &job.corners, job.inverted, camera.as_ref())
 }
 
 fn outcome(a: &trufolmesca::Answer) -> Outcome {
@@ -34,6 +37,16 @@ fn outcome(a: &trufolmesca::Answer) -> Outcome {
 /// The refinement call, with or without a camera.
 pub fn refine(job: &Job) -> Option<Outcome> {
     cfg!(port).then(|| outcome(&answered(job)))
+}
+
+/// The marking call, which is lent sheet and copy.
+pub fn refine_marking(job: &Job, sheet: &mut [u8], copy: &mut [u8]) -> Option<Outcome> {
+    let camera = job.camera.as_ref().map(camera);
+    let marked = || {
+        let (p, scale) = (photograph(job), [job.sx, job.sy]);
+        trufolmesca::refine_corners_marking(p, grid(job), scale, &job.corners, job.inverted, camera.as_ref(), sheet, copy)
+    };
+    cfg!(port).then(marked).map(|a| outcome(&a))
 }
 
 /// The bare call, for timing.
@@ -92,72 +105,3 @@ pub fn localize(p: Photograph, c: Option<&Camera>, a: &Aim) -> Leaf<3> {
 pub fn sqrt(x: f64) -> Leaf<1> {
     cfg!(port).then(|| (0, [trufolmesca::sqrt(x)]))
 }
-
-// ---- the marking calls, which the bindings do not have yet
-
-#[cfg(all(has_refine_corners_marking, has_refine_corners_mapped_marking))]
-extern "C" {
-    fn trufolmesca_refine_corners_marking(
-        bytes: *const u8, bytes_len: usize, width: u32, height: u32, stride: u32,
-        modules: *const u8, modules_len: usize, dim: u32, sx: f64, sy: f64,
-        corners: *const f64, corners_len: usize, inverted: bool,
-        places: *mut f64, places_len: usize, counts: *mut u32, counts_len: usize,
-        sheet: *mut u8, sheet_len: usize, copy: *mut u8, copy_len: usize,
-    ) -> u32;
-    fn trufolmesca_refine_corners_mapped_marking(
-        bytes: *const u8, bytes_len: usize, width: u32, height: u32, stride: u32,
-        modules: *const u8, modules_len: usize, dim: u32, sx: f64, sy: f64,
-        corners: *const f64, corners_len: usize, inverted: bool,
-        camera: *const f64, camera_len: usize, lens: bool,
-        places: *mut f64, places_len: usize, counts: *mut u32, counts_len: usize,
-        sheet: *mut u8, sheet_len: usize, copy: *mut u8, copy_len: usize,
-    ) -> u32;
-}
-
-#[cfg(not(all(has_refine_corners_marking, has_refine_corners_mapped_marking)))]
-pub fn refine_marking(_: &Job, _: &mut [u8], _: &mut [u8]) -> Option<Outcome> {
-    None
-}
-
-/// The marking call: sheet and copy are lent as they are.
-#[cfg(all(has_refine_corners_marking, has_refine_corners_mapped_marking))]
-pub fn refine_marking(job: &Job, sheet: &mut [u8], copy: &mut [u8]) -> Option<Outcome> {
-    let (mut places, mut counts) = ([f64::NAN; 8], [u32::MAX; 20]);
-    let corners = job.corners.as_flattened();
-    let number = match &job.camera {
-        None => unsafe {
-            trufolmesca_refine_corners_marking(
-                job.bytes.as_ptr(), job.bytes.len(), job.width, job.height, job.stride,
-                job.modules.as_ptr(), job.modules.len(), job.dim, job.sx, job.sy,
-                corners.as_ptr(), 8, job.inverted, places.as_mut_ptr(), 8, counts.as_mut_ptr(), 20,
-                sheet.as_mut_ptr(), sheet.len(), copy.as_mut_ptr(), copy.len(),
-            )
-        },
-        Some(c) => {
-            let mut n = [0.0; 13];
-            n[..4].copy_from_slice(&c.source);
-            n[4..8].copy_from_slice(&c.rectified);
-            n[8..].copy_from_slice(&c.lens.unwrap_or_default());
-            unsafe {
-                trufolmesca_refine_corners_mapped_marking(
-                    job.bytes.as_ptr(), job.bytes.len(), job.width, job.height, job.stride,
-                    job.modules.as_ptr(), job.modules.len(), job.dim, job.sx, job.sy,
-                    corners.as_ptr(), 8, job.inverted, n.as_ptr(), 13, c.lens.is_some(),
-                    places.as_mut_ptr(), 8, counts.as_mut_ptr(), 20,
-                    sheet.as_mut_ptr(), sheet.len(), copy.as_mut_ptr(), copy.len(),
-                )
-            }
-        }
-    };
-    let edge = |e: usize| [counts[4 * e], counts[4 * e + 1], counts[4 * e + 2]];
-    Some(Outcome {
-        number,
-        corners: [0, 1, 2, 3].map(|i| [places[2 * i], places[2 * i + 1]]),
-        counts: [0, 1, 2, 3].map(edge),
-        valid: [0, 1, 2, 3].map(|e| counts[4 * e + 3] == 1),
-        refined: [0, 1, 2, 3].map(|i| counts[16 + i] == 1),
-    })
-}
-
-/// Whether sheets and copies are compared.
-pub const MARKS: bool = cfg!(all(has_refine_corners_marking, has_refine_corners_mapped_marking));
