@@ -1,2 +1,2 @@
 -- What the proofs of `export` cite.
-pub mod Chains
+pub mod Written

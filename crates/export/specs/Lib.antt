@@ -1,3 +1,2 @@
 -- What the contracts of `export` cite.
-pub mod Lent
-pub mod Answers
+pub mod Calls

@@ -1,8 +1,9 @@
 // The refinement calls.
 ghost use Rattle.sampling.specs.declared.View.the-variants.{Plain, Calibrated};
-ghost use Rattle.export.specs.Lent.{cameraOf};
+ghost use Rattle.lent.specs.Lent.{cameraOf};
+ghost use Rattle.lent.specs.Answers.{Written};
 ghost use Rattle.refine.specs.Refine.{photograph};
-ghost use Rattle.export.specs.Answers.{lentRequest, lentJob, Written, WrittenMarked};
+ghost use Rattle.export.specs.Calls.{lentRequest, lentJob, WrittenMarked};
 use sampling::View;
 
 #[no_mangle]
@@ -22,7 +23,7 @@ pub extern "C" fn trufolmesca_refine_corners(
 ) -> u32
     ensures { λ r. ⌜ Written (lentJob (now (bytes .entry)) width height stride (now (modules .entry)) dim sx sy (now (corners .entry)) inverted Plain) r (now (places .entry)) (now (places .exit)) (now (counts .entry)) (now (counts .exit)) ⌝ }
 {
-    let q = crate::answers::working_of(corners);
+    let q = lent::working_of(corners);
     let a = refine::refine_corners(
         bytes,
         width,
@@ -35,7 +36,7 @@ pub extern "C" fn trufolmesca_refine_corners(
         q,
         inverted,
     );
-    crate::answers::put_answer(a, places, counts)
+    lent::put_answer(a, places, counts)
 }
 
 #[no_mangle]
@@ -57,8 +58,8 @@ pub extern "C" fn trufolmesca_refine_corners_mapped(
 ) -> u32
     ensures { λ r. ⌜ Written (lentJob (now (bytes .entry)) width height stride (now (modules .entry)) dim sx sy (now (corners .entry)) inverted (Calibrated (cameraOf (now (camera .entry)) lens))) r (now (places .entry)) (now (places .exit)) (now (counts .entry)) (now (counts .exit)) ⌝ }
 {
-    let q = crate::answers::working_of(corners);
-    let view = View::Calibrated(crate::lent::camera_of(camera, lens));
+    let q = lent::working_of(corners);
+    let view = View::Calibrated(lent::camera_of(camera, lens));
     let a = refine::refine_corners_mapped(
         bytes,
         width,
@@ -72,7 +73,7 @@ pub extern "C" fn trufolmesca_refine_corners_mapped(
         inverted,
         view,
     );
-    crate::answers::put_answer(a, places, counts)
+    lent::put_answer(a, places, counts)
 }
 
 // ---- the same, marked: sheet and copy are lent width × height bytes or more, in rows of width bytes
@@ -96,7 +97,7 @@ pub extern "C" fn trufolmesca_refine_corners_marking(
 ) -> u32
     ensures { λ r. ⌜ WrittenMarked (lentRequest width height (now (modules .entry)) dim sx sy (now (corners .entry)) inverted Plain) (photograph (now (bytes .entry)) stride) r (now (places .entry)) (now (places .exit)) (now (counts .entry)) (now (counts .exit)) (now (sheet .entry)) (now (sheet .exit)) (now (copy .entry)) (now (copy .exit)) ⌝ }
 {
-    let q = crate::answers::working_of(corners);
+    let q = lent::working_of(corners);
     let a = marking::refine_corners_marking(
         bytes,
         width,
@@ -111,7 +112,7 @@ pub extern "C" fn trufolmesca_refine_corners_marking(
         sheet,
         copy,
     );
-    crate::answers::put_answer(a, places, counts)
+    lent::put_answer(a, places, counts)
 }
 
 #[no_mangle]
@@ -135,8 +136,8 @@ pub extern "C" fn trufolmesca_refine_corners_mapped_marking(
 ) -> u32
     ensures { λ r. ⌜ WrittenMarked (lentRequest width height (now (modules .entry)) dim sx sy (now (corners .entry)) inverted (Calibrated (cameraOf (now (camera .entry)) lens))) (photograph (now (bytes .entry)) stride) r (now (places .entry)) (now (places .exit)) (now (counts .entry)) (now (counts .exit)) (now (sheet .entry)) (now (sheet .exit)) (now (copy .entry)) (now (copy .exit)) ⌝ }
 {
-    let q = crate::answers::working_of(corners);
-    let view = View::Calibrated(crate::lent::camera_of(camera, lens));
+    let q = lent::working_of(corners);
+    let view = View::Calibrated(lent::camera_of(camera, lens));
     let a = marking::refine_corners_mapped_marking(
         bytes,
         width,
@@ -152,5 +153,5 @@ pub extern "C" fn trufolmesca_refine_corners_mapped_marking(
         sheet,
         copy,
     );
-    crate::answers::put_answer(a, places, counts)
+    lent::put_answer(a, places, counts)
 }

@@ -10,7 +10,7 @@ ghost use Rattle.camera.specs.Camera.{cameraAnswer};
 ghost use Rattle.homography.specs.Homography.{squareToQuad, quadToQuad, mapAnswer, mapPoint, scaled, inverse, composed};
 ghost use Rattle.line.specs.Line.{fitLine, lineAnswer, crossing, crossAnswer};
 ghost use Rattle.profile.specs.Profile.{localizeEdgePoint};
-ghost use Rattle.export.specs.Lent.{quadOf, mapOf, lineOf, cameraOf, borderOf, withPlace, withPoint, withLine, withMap};
+ghost use Rattle.lent.specs.Lent.{quadOf, mapOf, lineOf, cameraOf, borderOf, withPlace, withPoint, withLine, withMap};
 use homography::PerspectiveTransform;
 use pixel::Direction;
 use pixel::SourcePixel;
@@ -33,9 +33,9 @@ pub extern "C" fn trufolmesca_sample_bilinear(
     ensures { λ r. ⌜ r ≡ sampleBilinear (now (bytes .entry)) width height stride x y (borderOf border constant) .number ⌝ }
     ensures { λ _. ⌜ now (value .exit) ≡ set (now (value .entry)) 0 (sampleBilinear (now (bytes .entry)) width height stride x y (borderOf border constant) .luma) ⌝ }
 {
-    let mode = crate::lent::border_of(border, constant);
+    let mode = lent::border_of(border, constant);
     let a = sampling::sample_bilinear(bytes, width, height, stride, x, y, mode);
-    crate::lent::put(value, 0, a.luma);
+    lent::put(value, 0, a.luma);
     a.number
 }
 
@@ -52,9 +52,9 @@ pub extern "C" fn trufolmesca_rectified_to_source(
     ensures { λ r. ⌜ r ≡ cameraAnswer (cameraOf (now (camera .entry)) lens) (source x y) .number ⌝ }
     ensures { λ _. ⌜ now (place .exit) ≡ withPlace (cameraAnswer (cameraOf (now (camera .entry)) lens) (source x y) .place) (now (place .entry)) ⌝ }
 {
-    let c = crate::lent::camera_of(camera, lens);
+    let c = lent::camera_of(camera, lens);
     let a = c.rectified_to_source(SourcePixel(x, y));
-    crate::lent::put_place(place, a.place);
+    lent::put_place(place, a.place);
     a.number
 }
 
@@ -65,9 +65,9 @@ pub extern "C" fn trufolmesca_square_to_quad(corners: &[f64], map: &mut [f64]) -
     ensures { λ r. ⌜ r ≡ mapAnswer (squareToQuad (quadOf (now (corners .entry)))) .number ⌝ }
     ensures { λ _. ⌜ now (map .exit) ≡ withMap (mapAnswer (squareToQuad (quadOf (now (corners .entry)))) .map) (now (map .entry)) ⌝ }
 {
-    let q = crate::lent::quad_of(corners);
+    let q = lent::quad_of(corners);
     let a = PerspectiveTransform::square_to_quad(q);
-    crate::lent::put_map(map, a.map);
+    lent::put_map(map, a.map);
     a.number
 }
 
@@ -76,10 +76,10 @@ pub extern "C" fn trufolmesca_quad_to_quad(from: &[f64], to: &[f64], map: &mut [
     ensures { λ r. ⌜ r ≡ mapAnswer (quadToQuad (quadOf (now (from .entry))) (quadOf (now (to .entry)))) .number ⌝ }
     ensures { λ _. ⌜ now (map .exit) ≡ withMap (mapAnswer (quadToQuad (quadOf (now (from .entry))) (quadOf (now (to .entry)))) .map) (now (map .entry)) ⌝ }
 {
-    let f = crate::lent::quad_of(from);
-    let t = crate::lent::quad_of(to);
+    let f = lent::quad_of(from);
+    let t = lent::quad_of(to);
     let a = PerspectiveTransform::quad_to_quad(f, t);
-    crate::lent::put_map(map, a.map);
+    lent::put_map(map, a.map);
     a.number
 }
 
@@ -87,23 +87,23 @@ pub extern "C" fn trufolmesca_quad_to_quad(from: &[f64], to: &[f64], map: &mut [
 pub extern "C" fn trufolmesca_map(map: &[f64], u: f64, v: f64, place: &mut [f64])
     ensures { λ _. ⌜ now (place .exit) ≡ withPlace (mapPoint (mapOf (now (map .entry))) u v) (now (place .entry)) ⌝ }
 {
-    let m = crate::lent::map_of(map);
-    crate::lent::put_place(place, m.map(u, v));
+    let m = lent::map_of(map);
+    lent::put_place(place, m.map(u, v));
 }
 
 #[no_mangle]
 pub extern "C" fn trufolmesca_scaled(sx: f64, sy: f64, map: &mut [f64])
     ensures { λ _. ⌜ now (map .exit) ≡ withMap (scaled sx sy) (now (map .entry)) ⌝ }
 {
-    crate::lent::put_map(map, PerspectiveTransform::scaled(sx, sy));
+    lent::put_map(map, PerspectiveTransform::scaled(sx, sy));
 }
 
 #[no_mangle]
 pub extern "C" fn trufolmesca_inverse(map: &[f64], out: &mut [f64])
     ensures { λ _. ⌜ now (out .exit) ≡ withMap (inverse (mapOf (now (map .entry)))) (now (out .entry)) ⌝ }
 {
-    let m = crate::lent::map_of(map);
-    crate::lent::put_map(out, m.inverse());
+    let m = lent::map_of(map);
+    lent::put_map(out, m.inverse());
 }
 
 // The inner map first, and the outer one after it.
@@ -111,9 +111,9 @@ pub extern "C" fn trufolmesca_inverse(map: &[f64], out: &mut [f64])
 pub extern "C" fn trufolmesca_then(inner: &[f64], outer: &[f64], out: &mut [f64])
     ensures { λ _. ⌜ now (out .exit) ≡ withMap (composed (mapOf (now (inner .entry))) (mapOf (now (outer .entry)))) (now (out .entry)) ⌝ }
 {
-    let i = crate::lent::map_of(inner);
-    let o = crate::lent::map_of(outer);
-    crate::lent::put_map(out, i.then(o));
+    let i = lent::map_of(inner);
+    let o = lent::map_of(outer);
+    lent::put_map(out, i.then(o));
 }
 
 // ---- line.rs
@@ -129,7 +129,7 @@ pub extern "C" fn trufolmesca_fit_line_tls_weighted(
     ensures { λ _. ⌜ now (line .exit) ≡ withLine (lineAnswer (fitLine (now (xs .entry)) (now (ys .entry)) (now (weights .entry))) .line) (now (line .entry)) ⌝ }
 {
     let a = line::fit_line_tls_weighted(xs, ys, weights);
-    crate::lent::put_line(line, a.line);
+    lent::put_line(line, a.line);
     a.number
 }
 
@@ -138,10 +138,10 @@ pub extern "C" fn trufolmesca_intersect_lines(a: &[f64], b: &[f64], place: &mut 
     ensures { λ r. ⌜ r ≡ crossAnswer (crossing (lineOf (now (a .entry))) (lineOf (now (b .entry)))) .number ⌝ }
     ensures { λ _. ⌜ now (place .exit) ≡ withPlace (crossAnswer (crossing (lineOf (now (a .entry))) (lineOf (now (b .entry)))) .place) (now (place .entry)) ⌝ }
 {
-    let first = crate::lent::line_of(a);
-    let second = crate::lent::line_of(b);
+    let first = lent::line_of(a);
+    let second = lent::line_of(b);
     let c = line::intersect_lines(first, second);
-    crate::lent::put_place(place, c.place);
+    lent::put_place(place, c.place);
     c.number
 }
 
@@ -182,7 +182,7 @@ pub extern "C" fn trufolmesca_localize_edge_point(
         inverted,
         inward_differs,
     );
-    crate::lent::put_point(point, a.point);
+    lent::put_point(point, a.point);
     a.number
 }
 
@@ -206,7 +206,7 @@ pub extern "C" fn trufolmesca_localize_edge_point_mapped(
     ensures { λ r. ⌜ r ≡ localizeEdgePoint (now (bytes .entry)) width height stride (Calibrated (cameraOf (now (camera .entry)) lens)) (source «coarse_x» «coarse_y») (direction «normal_x» «normal_y») step inverted «inward_differs» .number ⌝ }
     ensures { λ _. ⌜ now (point .exit) ≡ withPoint (localizeEdgePoint (now (bytes .entry)) width height stride (Calibrated (cameraOf (now (camera .entry)) lens)) (source «coarse_x» «coarse_y») (direction «normal_x» «normal_y») step inverted «inward_differs» .point) (now (point .entry)) ⌝ }
 {
-    let view = View::Calibrated(crate::lent::camera_of(camera, lens));
+    let view = View::Calibrated(lent::camera_of(camera, lens));
     let coarse = SourcePixel(coarse_x, coarse_y);
     let normal = Direction {
         x: normal_x,
@@ -224,7 +224,7 @@ pub extern "C" fn trufolmesca_localize_edge_point_mapped(
         inverted,
         inward_differs,
     );
-    crate::lent::put_point(point, a.point);
+    lent::put_point(point, a.point);
     a.number
 }
 

@@ -1,6 +1,6 @@
 -- `trufolmesca_refine_corners_mapped` meets its contract: it writes what the refinement answers. Assumes nothing.
-use Rattle.export.specs.Answers.{lentJob}
-use Rattle.export.proofs.Chains.{written-as}
+use Rattle.export.specs.Calls.{lentJob}
+use Rattle.export.proofs.Written.{written-as}
 use borrow.Author.Needs.{needs}
 use Rattle.export.proofs.calls.trufolmesca_refine_corners_mapped.Statement.{statement}
 use Rattle.export.proofs.calls.trufolmesca_refine_corners_mapped.Tie as tie

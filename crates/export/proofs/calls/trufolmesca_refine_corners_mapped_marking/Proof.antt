@@ -1,5 +1,5 @@
 -- `trufolmesca_refine_corners_mapped_marking` meets its contract: it writes what the marking call answers, which leaves sheet and copy. Assumes nothing.
-use Rattle.export.proofs.Chains.{marked-as}
+use Rattle.export.proofs.Written.{marked-as}
 use borrow.Author.Needs.{needs}
 use Rattle.export.proofs.calls.trufolmesca_refine_corners_mapped_marking.Statement.{statement}
 use Rattle.export.proofs.calls.trufolmesca_refine_corners_mapped_marking.Tie as tie

@@ -1,0 +1,2 @@
+-- What the proofs of `lent` cite.
+pub mod Chains

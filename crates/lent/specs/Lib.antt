@@ -1,0 +1,3 @@
+-- What the contracts of `lent` cite.
+pub mod Lent
+pub mod Answers
