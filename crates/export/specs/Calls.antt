@@ -21,7 +21,7 @@ unfoldable pub lentJob : (bytes : List ℕ) (width height stride : ℕ) (modules
 lentJob bytes width height stride modules dim sx sy corners inverted view =
     refine defaults (lentRequest width height modules dim sx sy corners inverted view) (photograph bytes stride)
 
--- The marking calls: the answer is written as above, and the sheet goes from s to s′ and the copy from k to k′ as it says, also where places or counts are too short for it.
+-- A marking call writes its answer as every refinement call, and takes the sheet from s to s′ and the copy from k to k′, also where places or counts are too short for the answer.
 pub record WrittenMarked (r : Request) (f : Photograph) (n : ℕ) (p p′ : List Float) (c c′ s s′ k k′ : List ℕ) : Type 0 where
   pub answer : Written (refineMarking defaults r f s k) n p p′ c c′
   pub sheet : s′ ≡ sheetAfter defaults r f s k

@@ -1,10 +1,8 @@
-// The refinement calls.
-ghost use Rattle.sampling.specs.declared.View.the-variants.{Plain, Calibrated};
-ghost use Rattle.lent.specs.Lent.{cameraOf};
-ghost use Rattle.lent.specs.Answers.{Written};
+// The refinement calls over the photograph as it is.
+ghost use Rattle.sampling.specs.declared.View.the-variants.{Plain};
 ghost use Rattle.refine.specs.Refine.{photograph};
+ghost use Rattle.lent.specs.Answers.{Written};
 ghost use Rattle.export.specs.Calls.{lentRequest, lentJob, WrittenMarked};
-use sampling::View;
 
 #[no_mangle]
 pub extern "C" fn trufolmesca_refine_corners(
@@ -39,45 +37,7 @@ pub extern "C" fn trufolmesca_refine_corners(
     lent::put_answer(a, places, counts)
 }
 
-#[no_mangle]
-pub extern "C" fn trufolmesca_refine_corners_mapped(
-    bytes: &[u8],
-    width: u32,
-    height: u32,
-    stride: u32,
-    modules: &[u8],
-    dim: u32,
-    sx: f64,
-    sy: f64,
-    corners: &[f64],
-    inverted: bool,
-    camera: &[f64],
-    lens: bool,
-    places: &mut [f64],
-    counts: &mut [u32],
-) -> u32
-    ensures { λ r. ⌜ Written (lentJob (now (bytes .entry)) width height stride (now (modules .entry)) dim sx sy (now (corners .entry)) inverted (Calibrated (cameraOf (now (camera .entry)) lens))) r (now (places .entry)) (now (places .exit)) (now (counts .entry)) (now (counts .exit)) ⌝ }
-{
-    let q = lent::working_of(corners);
-    let view = View::Calibrated(lent::camera_of(camera, lens));
-    let a = refine::refine_corners_mapped(
-        bytes,
-        width,
-        height,
-        stride,
-        modules,
-        dim,
-        sx,
-        sy,
-        q,
-        inverted,
-        view,
-    );
-    lent::put_answer(a, places, counts)
-}
-
-// ---- the same, marked: sheet and copy are lent width × height bytes or more, in rows of width bytes
-
+// Marked: sheet and copy are lent width × height bytes or more, in rows of width bytes.
 #[no_mangle]
 pub extern "C" fn trufolmesca_refine_corners_marking(
     bytes: &[u8],
@@ -109,47 +69,6 @@ pub extern "C" fn trufolmesca_refine_corners_marking(
         sy,
         q,
         inverted,
-        sheet,
-        copy,
-    );
-    lent::put_answer(a, places, counts)
-}
-
-#[no_mangle]
-pub extern "C" fn trufolmesca_refine_corners_mapped_marking(
-    bytes: &[u8],
-    width: u32,
-    height: u32,
-    stride: u32,
-    modules: &[u8],
-    dim: u32,
-    sx: f64,
-    sy: f64,
-    corners: &[f64],
-    inverted: bool,
-    camera: &[f64],
-    lens: bool,
-    places: &mut [f64],
-    counts: &mut [u32],
-    sheet: &mut [u8],
-    copy: &mut [u8],
-) -> u32
-    ensures { λ r. ⌜ WrittenMarked (lentRequest width height (now (modules .entry)) dim sx sy (now (corners .entry)) inverted (Calibrated (cameraOf (now (camera .entry)) lens))) (photograph (now (bytes .entry)) stride) r (now (places .entry)) (now (places .exit)) (now (counts .entry)) (now (counts .exit)) (now (sheet .entry)) (now (sheet .exit)) (now (copy .entry)) (now (copy .exit)) ⌝ }
-{
-    let q = lent::working_of(corners);
-    let view = View::Calibrated(lent::camera_of(camera, lens));
-    let a = marking::refine_corners_mapped_marking(
-        bytes,
-        width,
-        height,
-        stride,
-        modules,
-        dim,
-        sx,
-        sy,
-        q,
-        inverted,
-        view,
         sheet,
         copy,
     );

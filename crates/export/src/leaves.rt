@@ -5,12 +5,12 @@ ghost use lib.Ieee.{binary64};
 ghost use Rattle.ieee.specs.Root.{root};
 ghost use Rattle.pixel.specs.Pixels.{source, direction};
 ghost use Rattle.sampling.specs.Sampling.{sampleBilinear};
-ghost use Rattle.sampling.specs.declared.View.the-variants.{Plain, Calibrated};
+ghost use Rattle.sampling.specs.declared.View.the-variants.{Plain};
 ghost use Rattle.camera.specs.Camera.{cameraAnswer};
 ghost use Rattle.homography.specs.Homography.{squareToQuad, quadToQuad, mapAnswer, mapPoint, scaled, inverse, composed};
 ghost use Rattle.line.specs.Line.{fitLine, lineAnswer, crossing, crossAnswer};
 ghost use Rattle.profile.specs.Profile.{localizeEdgePoint};
-ghost use Rattle.lent.specs.Lent.{quadOf, mapOf, lineOf, cameraOf, borderOf, withPlace, withPoint, withLine, withMap};
+ghost use Rattle.lent.specs.Lent.{quadOf, mapOf, lineOf, cameraOf, viewOf, borderOf, withPlace, withPoint, withLine, withMap};
 use homography::PerspectiveTransform;
 use pixel::Direction;
 use pixel::SourcePixel;
@@ -203,10 +203,10 @@ pub extern "C" fn trufolmesca_localize_edge_point_mapped(
     lens: bool,
     point: &mut [f64],
 ) -> u32
-    ensures { λ r. ⌜ r ≡ localizeEdgePoint (now (bytes .entry)) width height stride (Calibrated (cameraOf (now (camera .entry)) lens)) (source «coarse_x» «coarse_y») (direction «normal_x» «normal_y») step inverted «inward_differs» .number ⌝ }
-    ensures { λ _. ⌜ now (point .exit) ≡ withPoint (localizeEdgePoint (now (bytes .entry)) width height stride (Calibrated (cameraOf (now (camera .entry)) lens)) (source «coarse_x» «coarse_y») (direction «normal_x» «normal_y») step inverted «inward_differs» .point) (now (point .entry)) ⌝ }
+    ensures { λ r. ⌜ r ≡ localizeEdgePoint (now (bytes .entry)) width height stride (viewOf (now (camera .entry)) lens) (source «coarse_x» «coarse_y») (direction «normal_x» «normal_y») step inverted «inward_differs» .number ⌝ }
+    ensures { λ _. ⌜ now (point .exit) ≡ withPoint (localizeEdgePoint (now (bytes .entry)) width height stride (viewOf (now (camera .entry)) lens) (source «coarse_x» «coarse_y») (direction «normal_x» «normal_y») step inverted «inward_differs» .point) (now (point .entry)) ⌝ }
 {
-    let view = View::Calibrated(lent::camera_of(camera, lens));
+    let view = lent::view_of(camera, lens);
     let coarse = SourcePixel(coarse_x, coarse_y);
     let normal = Direction {
         x: normal_x,

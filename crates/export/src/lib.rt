@@ -2,3 +2,4 @@
 // that the caller lends. bindings/trufolmesca.h says what each list holds.
 mod calls; // calls.rt: the refinement calls
 mod leaves; // leaves.rt: the leaf calls
+mod mapped; // mapped.rt: the refinement calls through a camera

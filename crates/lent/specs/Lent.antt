@@ -16,6 +16,8 @@ use Rattle.camera.specs.declared.CameraIntrinsics.{CameraIntrinsics}
 use Rattle.camera.specs.declared.LensDistortion.{LensDistortion}
 use Rattle.camera.specs.declared.LensDistortion.the-variants.{None, BrownConrady}
 use Rattle.camera.specs.declared.CameraCalibration.{CameraCalibration}
+use Rattle.sampling.specs.declared.View.{View}
+use Rattle.sampling.specs.declared.View.the-variants.{Calibrated}
 use Rattle.sampling.specs.declared.BorderMode.{BorderMode}
 use Rattle.sampling.specs.declared.BorderMode.the-variants.{Reject, Clamp, Constant}
 
@@ -59,6 +61,10 @@ lensOf s lens = if lens then BrownConrady (floatAt s 8) (floatAt s 9) (floatAt s
 -- source then rectified intrinsics, then the lens
 unfoldable pub cameraOf : List Float → Bool → CameraCalibration
 cameraOf s lens = record { intrinsics = sourceIntrinsics s; rectified = rectifiedIntrinsics s; distortion = lensOf s lens }
+
+-- the photograph, seen through that camera
+abbrev pub viewOf : List Float → Bool → View
+viewOf s lens = Calibrated (cameraOf s lens)
 
 -- 0 rejects, 1 clamps, anything else answers with the constant
 unfoldable pub borderOf : ℕ → ℕ → BorderMode

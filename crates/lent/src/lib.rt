@@ -2,7 +2,7 @@
 // what each list holds.
 ghost use mathlib.Core.Path.{_≡_};
 ghost use lib.ListN.{set};
-ghost use Rattle.lent.specs.Lent.{floatAt, quadOf, mapOf, lineOf, sourceIntrinsics, rectifiedIntrinsics, lensOf, cameraOf, borderOf, withPlace, withPlaceAt, withPoint, withLine, withRow, withMap};
+ghost use Rattle.lent.specs.Lent.{floatAt, quadOf, mapOf, lineOf, sourceIntrinsics, rectifiedIntrinsics, lensOf, cameraOf, viewOf, borderOf, withPlace, withPlaceAt, withPoint, withLine, withRow, withMap};
 use camera::CameraCalibration;
 use camera::CameraIntrinsics;
 use camera::LensDistortion;
@@ -12,6 +12,7 @@ use pixel::Direction;
 use pixel::EdgePoint;
 use pixel::SourcePixel;
 use sampling::BorderMode;
+use sampling::View;
 
 mod answers; // answers.rt: the refinement's corners, and its answer
 
@@ -117,6 +118,12 @@ pub fn camera_of(s: &[f64], lens: bool) -> CameraCalibration
         rectified,
         distortion,
     }
+}
+
+pub fn view_of(s: &[f64], lens: bool) -> View
+    ensures { λ r. ⌜ r ≡ viewOf (now (s .entry)) lens ⌝ }
+{
+    View::Calibrated(camera_of(s, lens))
 }
 
 pub fn border_of(mode: u32, constant: u8) -> BorderMode

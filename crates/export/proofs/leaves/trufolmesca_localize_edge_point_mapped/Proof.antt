@@ -3,8 +3,8 @@ use borrow.Author.Needs.{needs}
 use Rattle.export.proofs.leaves.trufolmesca_localize_edge_point_mapped.Statement.{statement}
 use Rattle.export.proofs.leaves.trufolmesca_localize_edge_point_mapped.Tie as tie
 
-camera-of-requires : tie.Need-camera-of-requires
-camera-of-requires c κs = search needs
+view-of-requires : tie.Need-view-of-requires
+view-of-requires c κs = search needs
 
 localize-edge-point-requires : tie.Need-localize-edge-point-requires
 localize-edge-point-requires c κs = search needs
@@ -17,13 +17,13 @@ same-length c = search needs
 
 returns : tie.Need-returns
 returns c =
-    (simp (c .before .before .before .before .localize-edge-point .ensures, c .before .before .before .before .before .camera-of .ensures), simp (c .before .before .put-point .ensures, c .before .before .before .before .localize-edge-point .ensures, c .before .before .before .before .before .camera-of .ensures))
+    (simp (c .before .before .before .before .localize-edge-point .ensures, c .before .before .before .before .before .view-of .ensures), simp (c .before .before .put-point .ensures, c .before .before .before .before .localize-edge-point .ensures, c .before .before .before .before .before .view-of .ensures))
 
 pub trufolmesca-localize-edge-point-mapped-spec : {M : Type 1} → statement M
 trufolmesca-localize-edge-point-mapped-spec =
     tie.close
     (tie.spec
-    camera-of-requires
+    view-of-requires
     localize-edge-point-requires
     put-point-requires
     same-length

@@ -2,14 +2,14 @@
 use Rattle.export.specs.Calls.{lentJob}
 use Rattle.export.proofs.Written.{written-as}
 use borrow.Author.Needs.{needs}
-use Rattle.export.proofs.calls.trufolmesca_refine_corners_mapped.Statement.{statement}
-use Rattle.export.proofs.calls.trufolmesca_refine_corners_mapped.Tie as tie
+use Rattle.export.proofs.mapped.trufolmesca_refine_corners_mapped.Statement.{statement}
+use Rattle.export.proofs.mapped.trufolmesca_refine_corners_mapped.Tie as tie
 
 working-of-requires : tie.Need-working-of-requires
 working-of-requires c κs = search needs
 
-camera-of-requires : tie.Need-camera-of-requires
-camera-of-requires c κs = search needs
+view-of-requires : tie.Need-view-of-requires
+view-of-requires c κs = search needs
 
 refine-corners-mapped-requires : tie.Need-refine-corners-mapped-requires
 refine-corners-mapped-requires c κs = search needs
@@ -26,14 +26,14 @@ same-length-2 c = search needs
 returns : tie.Need-returns
 unfolding lentJob
 returns c =
-    written-as (simp (c .before .before .before .before .before .before .before .refine-corners-mapped .ensures, c .before .before .before .before .before .before .before .before .before .working-of .ensures, c .before .before .before .before .before .before .before .before .camera-of .ensures)) (c .before .before .before .before .put-answer .ensures)
+    written-as (simp (c .before .before .before .before .before .before .before .refine-corners-mapped .ensures, c .before .before .before .before .before .before .before .before .before .working-of .ensures, c .before .before .before .before .before .before .before .before .view-of .ensures)) (c .before .before .before .before .put-answer .ensures)
 
 pub trufolmesca-refine-corners-mapped-spec : {M : Type 1} → statement M
 trufolmesca-refine-corners-mapped-spec =
     tie.close
     (tie.spec
     working-of-requires
-    camera-of-requires
+    view-of-requires
     refine-corners-mapped-requires
     put-answer-requires
     same-length
