@@ -161,7 +161,7 @@ impl CameraCalibration {
     }
 
     // No lens, and both pictures have the same intrinsics: the camera changes nothing.
-    fn is_identity(self) -> bool
+    pub fn is_identity(self) -> bool
         ensures { λ r. ⌜ r ≡ isIdentity self ⌝ }
     {
         let lens = self.distortion;
@@ -172,7 +172,7 @@ impl CameraCalibration {
     }
 
     // Through the rectified picture's intrinsics, the lens, and the source picture's intrinsics.
-    fn project(self, p: SourcePixel) -> SourcePixel
+    pub fn project(self, p: SourcePixel) -> SourcePixel
         ensures { λ r. ⌜ r ≡ projected self p ⌝ }
     {
         let x = (p.0 - self.rectified.cx) / self.rectified.fx;
@@ -187,7 +187,7 @@ impl CameraCalibration {
 
     // Where a rectified place lies in the source picture. Whoever samples through the camera has
     // tested it once, so it is not tested here.
-    pub fn place_in_source(self, p: SourcePixel) -> Placed
+    fn place_in_source(self, p: SourcePixel) -> Placed
         ensures { λ r. ⌜ r ≡ rectifiedToSource self p ⌝ }
     {
         if !both_finite(p.0, p.1) {

@@ -1,6 +1,8 @@
 // bitmatrix.rs, `get`, and refine.rs, the selection of probes: which places of an edge are probed.
 ghost use mathlib.Core.Path.{_≡_};
 ghost use Prim.Native.Nat.{_-_, _*_, _≤_, _<_, min};
+ghost use mathlib.Core.Bool.{_&&_};
+ghost use lib.Dec.{leb};
 ghost use lib.ListN.{length};
 ghost use Rattle.grid.specs.Grids.{gridOf, dark as isDark, edgeDark, bits, goodGrid};
 ghost use Rattle.grid.specs.Probes.{nearEnd, Selected};
@@ -63,19 +65,26 @@ fn edge_dark(modules: &[u8], dim: u32, edge: u32, m: u32, depth: u32) -> bool
     }
 }
 
-// Whether the first n modules are 0 or 1.
+// The larger of two modules.
+fn larger(a: u8, b: u8) -> u8
+    ensures { λ r. ⌜ leb r 1 ≡ (leb a 1 && leb b 1) ⌝ }
+{
+    if a < b { b } else { a }
+}
+
+// Whether the first n modules are 0 or 1. It does not stop at the first that is neither, so that
+// many are compared at once.
 fn all_bits(modules: &[u8], n: usize) -> bool
     requires { ⌜ n ≤ length (now modules) ⌝ }
     ensures { λ r. ⌜ r ≡ bits n (now (modules .entry)) ⌝ }
 {
+    let mut largest: u8 = 0;
     let mut i: usize = 0;
     while i < n {
-        if modules[i] > 1 {
-            return false;
-        }
+        largest = larger(largest, modules[i]);
         i += 1;
     }
-    true
+    largest <= 1
 }
 
 // Entry check 3: whether a grid has 2 to 177 modules a side, enough modules, and each is 0 or 1.

@@ -1,16 +1,15 @@
 -- Where a sample falls, by the tests on the way: what each test of the code says of the definition. Each law unfolds the definition and
 -- puts the tests' results in. Assumes nothing.
-use mathlib.Core.Path.{_≡_, sym, ap, _∙_}
+use mathlib.Core.Path.{_≡_, refl, sym, ap, _∙_}
 use Prim.Native.Nat.{ℕ, _-_}
-use mathlib.Core.Bool.{true, false}
+use mathlib.Core.Bool.{Bool, true, false, _&&_}
 use lib.Ieee.{Float}
 use Rattle.ieee.specs.Parts.{isFinite}
-use Rattle.ieee.specs.Floats.{_≺_, f0, float}
+use Rattle.ieee.specs.Floats.{if_then_else_, _≺_, f0, float}
 use Rattle.pixel.specs.declared.SourcePixel.{SourcePixel}
 use Rattle.camera.specs.declared.CameraCalibration.{CameraCalibration}
-use Rattle.camera.specs.declared.Placed.{Placed}
 use Rattle.camera.specs.declared.Placed.the-variants.{On, Nowhere}
-use Rattle.camera.specs.Camera.{rectifiedToSource}
+use Rattle.camera.specs.Camera.{isIdentity, projected, ifFinite, rectifiedToSource}
 use Rattle.sampling.specs.declared.BorderMode.{BorderMode}
 use Rattle.sampling.specs.declared.BorderMode.the-variants.{Reject, Clamp}
 use Rattle.sampling.specs.declared.Spot.{Spot}
@@ -59,6 +58,36 @@ module _ (w h : ℕ) (b : BorderMode) (x y : Float) where
   unfolding spot
   in-within e f o = rw (e, f, o, spot)
 
+-- ---- the spot through a camera
+
+-- a place that is not finite has no spot
+if-finite-spot : (w h : ℕ) (q : SourcePixel) → spot w h Reject (q .0) (q .1) ≡ placedSpot w h (ifFinite q)
+unfolding placedSpot ifFinite
+if-finite-spot w h q = go (isFinite (q .0)) refl (isFinite (q .1)) refl
+  where
+    go : (a : Bool) → isFinite (q .0) ≡ a → (b : Bool) → isFinite (q .1) ≡ b → spot w h Reject (q .0) (q .1) ≡ placedSpot w h (if a && b then On q else Nowhere)
+    go true ea true eb = refl
+    go true ea false eb = sym (off-y w h Reject (q .0) (q .1) ea eb)
+    go false ea b eb = sym (off-x w h Reject (q .0) (q .1) ea)
+
+module _ (w h : ℕ) (c : CameraCalibration) (p : SourcePixel) where
+  pub lost-x : isFinite (p .0) ≡ false → Off ≡ placedSpot w h (rectifiedToSource c p)
+  unfolding placedSpot rectifiedToSource
+  lost-x e = rw (e, rectifiedToSource)
+
+  pub lost-y : isFinite (p .0) ≡ true → isFinite (p .1) ≡ false → Off ≡ placedSpot w h (rectifiedToSource c p)
+  unfolding placedSpot rectifiedToSource
+  lost-y e f = rw (e, f, rectifiedToSource)
+
+  pub same-place : isFinite (p .0) ≡ true → isFinite (p .1) ≡ true → isIdentity c ≡ true → spot w h Reject (p .0) (p .1) ≡ placedSpot w h (rectifiedToSource c p)
+  unfolding placedSpot rectifiedToSource
+  same-place e f i = rw (e, f, i, rectifiedToSource)
+
+  pub carried-place : {q : SourcePixel} → isFinite (p .0) ≡ true → isFinite (p .1) ≡ true → isIdentity c ≡ false → q ≡ projected c p
+      → spot w h Reject (q .0) (q .1) ≡ placedSpot w h (rectifiedToSource c p)
+  unfolding rectifiedToSource
+  carried-place {q} e f i at = rw (e, f, i, rectifiedToSource, sym at) (if-finite-spot w h q)
+
 -- ---- the spot in a scene
 
 module _ (s : Scene) (p : SourcePixel) where
@@ -66,16 +95,6 @@ module _ (s : Scene) (p : SourcePixel) where
   unfolding viewedSpot
   plain-spot e hr = hr ∙ sym (ap (λ (v : View). viewedSpot (s .width) (s .height) v p) e)
 
-  pub seen-spot : {c : CameraCalibration} → s .view ≡ Calibrated c → {q : SourcePixel} → rectifiedToSource c p ≡ On q → {r : Spot}
-      → r ≡ spot (s .width) (s .height) Reject (q .0) (q .1) → r ≡ sceneSpot s p
-  unfolding viewedSpot placedSpot
-  seen-spot e f hr =
-      hr
-      ∙ sym (ap (λ (z : Placed). placedSpot (s .width) (s .height) z) f)
-      ∙ sym (ap (λ (v : View). viewedSpot (s .width) (s .height) v p) e)
-
-  pub unseen-spot : {c : CameraCalibration} → s .view ≡ Calibrated c → rectifiedToSource c p ≡ Nowhere → Off ≡ sceneSpot s p
-  unfolding viewedSpot placedSpot
-  unseen-spot e f =
-      sym (ap (λ (z : Placed). placedSpot (s .width) (s .height) z) f)
-      ∙ sym (ap (λ (v : View). viewedSpot (s .width) (s .height) v p) e)
+  pub camera-spot : {c : CameraCalibration} → s .view ≡ Calibrated c → {r : Spot} → r ≡ placedSpot (s .width) (s .height) (rectifiedToSource c p) → r ≡ sceneSpot s p
+  unfolding viewedSpot
+  camera-spot e hr = hr ∙ sym (ap (λ (v : View). viewedSpot (s .width) (s .height) v p) e)

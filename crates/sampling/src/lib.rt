@@ -4,13 +4,13 @@ ghost use mathlib.Core.Path.{_≡_};
 ghost use Prim.Native.Nat.{_+_, _-_, _*_, min};
 ghost use lib.ListN.{set, getD};
 ghost use Rattle.ieee.specs.Floats.{float};
+ghost use Rattle.camera.specs.Camera.{rectifiedToSource};
 ghost use Rattle.sampling.specs.Photographs.{photo, sized as sizedBy, goodSize, goodPhotograph, photographNumber};
-ghost use Rattle.sampling.specs.Sampling.{clamped, outside as beyondEdges, within as amid, beyond as borderSpot, spot as spotOf, sceneSpot, goodView, sampleBilinear};
+ghost use Rattle.sampling.specs.Sampling.{clamped, outside as beyondEdges, within as amid, beyond as borderSpot, spot as spotOf, placedSpot, sceneSpot, goodView, sampleBilinear};
 ghost use Rattle.sampling.specs.Marks.{Shows};
 ghost use Rattle.sampling.specs.declared.Spot.the-variants.{Among};
 ghost use Rattle.sampling.specs.declared.Sampled.the-variants.{Luma};
 use camera::CameraCalibration;
-use camera::Placed;
 use pixel::SourcePixel;
 
 // A width or a height is at most this.
@@ -157,6 +157,24 @@ pub fn spot_at(width: u32, height: u32, border: BorderMode, x: f64, y: f64) -> S
     within(width, height, x, y)
 }
 
+// Where a sample seen through a camera falls. The camera's tests and steps stand here one by one, since a call with
+// the whole camera at every sample would be half as much work again.
+fn spot_through(width: u32, height: u32, camera: CameraCalibration, p: SourcePixel) -> Spot
+    ensures { λ r. ⌜ r ≡ placedSpot width height (rectifiedToSource camera p) ⌝ }
+{
+    if !ieee::is_finite(p.0) {
+        return Spot::Off;
+    }
+    if !ieee::is_finite(p.1) {
+        return Spot::Off;
+    }
+    if camera.is_identity() {
+        return spot_at(width, height, BorderMode::Reject, p.0, p.1);
+    }
+    let q = camera.project(p);
+    spot_at(width, height, BorderMode::Reject, q.0, q.1)
+}
+
 // Where a sample of the refinement falls: through the camera, where there is one, with the border
 // rejected.
 pub fn source_spot(scene: Scene, p: SourcePixel) -> Spot
@@ -165,13 +183,7 @@ pub fn source_spot(scene: Scene, p: SourcePixel) -> Spot
     let view = scene.view;
     match view {
         View::Plain => spot_at(scene.width, scene.height, BorderMode::Reject, p.0, p.1),
-        View::Calibrated(camera) => {
-            let placed = camera.place_in_source(p);
-            match placed {
-                Placed::On(q) => spot_at(scene.width, scene.height, BorderMode::Reject, q.0, q.1),
-                Placed::Nowhere => Spot::Off,
-            }
-        }
+        View::Calibrated(camera) => spot_through(scene.width, scene.height, camera, p),
     }
 }
 

@@ -1,30 +1,31 @@
--- `grid::all_bits` meets its contract. The loop's invariant: whether all n are bits is whether those from i on are. Assumes nothing.
+-- `grid::all_bits` meets its contract. The loop's invariant: whether all n are bits is whether the largest so far is one, and those from i on are.
+-- Assumes nothing.
 use mathlib.Core.Path.{_≡_, sym, _∙_}
 use Prim.Native.Nat.{_-_, _≤_}
+use mathlib.Core.Bool.{_&&_}
 use native.Mathlib.Omega.{arith}
+use lib.Dec.{leb}
 use lib.ListN.{drop}
 use borrow.Author.Needs.{needs}
-use borrow.Author.Tests.{lt-leb, le-leb}
 use Rattle.grid.specs.Grids.{bits}
-use Rattle.grid.proofs.Modules.{bits-start, bits-next, bits-end}
+use Rattle.grid.proofs.Modules.{bits-start, bits-further, bits-all}
 use Rattle.grid.proofs.all_bits.Statement.{statement}
 use Rattle.grid.proofs.all_bits.Tie as tie
 
 abbrev Inv-loop : tie.InvT-loop
-Inv-loop modules n i₀ i = (i ≤ n) × (bits n modules ≡ bits (n - i) (drop i modules))
+Inv-loop modules n largest₀ i₀ largest i = (i ≤ n) × (bits n modules ≡ (leb largest 1 && bits (n - i) (drop i modules)))
 
 abbrev μ-loop : tie.MeasureT-loop
-μ-loop modules n i₀ i = n - i
+μ-loop modules n largest₀ i₀ largest i = n - i
 
 loop-holds : tie.Need-loop-holds Inv-loop μ-loop
 loop-holds c = (omega arith, bits-start _ _)
 
-shared-slice-read-if1 : tie.Need-shared-slice-read-if1 Inv-loop μ-loop
-shared-slice-read-if1 c = search needs
+shared-slice-read-larger : tie.Need-shared-slice-read-larger Inv-loop μ-loop
+shared-slice-read-larger c = search needs
 
-returns : tie.Need-returns Inv-loop μ-loop
-returns c = let at = c .before .before .before in
-    rw (at .loop .inv .1, bits-next (at .before .args .n) (at .loop .i) (at .before .args .modules .now) (omega arith) (at .before .pre), lt-leb _ _ (c .if1 .taken))
+larger-requires : tie.Need-larger-requires Inv-loop μ-loop
+larger-requires c κs = search needs
 
 add-i : tie.Need-add-i Inv-loop μ-loop
 add-i c = search needs
@@ -33,11 +34,15 @@ loop-less : tie.Need-loop-less Inv-loop μ-loop
 loop-less c = search needs
 
 loop-again : tie.Need-loop-again Inv-loop μ-loop
-loop-again c = let at = c .before .before .before in
-    (omega arith, rw (at .loop .inv .1, bits-next (at .before .args .n) (at .loop .i) (at .before .args .modules .now) (omega arith) (at .before .pre), le-leb _ _ (c .if1 .left)))
+loop-again c =
+    let at = c .before .before .before in
+    let args = at .before .before .args in
+    (omega arith, bits-further (args .n) (at .loop .i) (at .loop .largest) (c .larger .result) (args .modules .now) (omega arith) (omega arith) (c .larger .ensures) (at .loop .inv .1))
 
-returns-2 : tie.Need-returns-2 Inv-loop μ-loop
-returns-2 c = sym (c .before .loop .inv .1 ∙ bits-end _ _ _ (c .loop-test .left))
+returns : tie.Need-returns Inv-loop μ-loop
+returns c =
+    let args = c .before .before .before .args in
+    bits-all (args .n) (c .before .loop .i) (c .before .loop .largest) (args .modules .now) (omega arith) (c .before .loop .inv .1)
 
 pub all-bits-spec : {M : Type 1} → statement M
 all-bits-spec =
@@ -46,9 +51,9 @@ all-bits-spec =
     Inv-loop
     μ-loop
     loop-holds
-    shared-slice-read-if1
-    returns
+    shared-slice-read-larger
+    larger-requires
     add-i
     loop-less
     loop-again
-    returns-2)
+    returns)
