@@ -278,7 +278,7 @@ fn cross(r: &mut Rng) -> Case {
 }
 
 fn localize(r: &mut Rng) -> Case {
-    let (width, height) = (r.int(1, 40) as u32, r.int(1, 40) as u32);
+    let (mut width, mut height) = (r.int(1, 40) as u32, r.int(1, 40) as u32);
     let mut stride = width + r.below(3) as u32;
     let mut bytes = r.bytes((height as usize - 1) * stride as usize + width as usize);
     let inverted = r.chance(0.5);
@@ -320,6 +320,10 @@ fn localize(r: &mut Rng) -> Case {
         let rectified = if r.chance(0.8) { source.map(|v| v * r.range(0.98, 1.02)) } else { c.rectified };
         Camera { source, rectified, ..c }
     });
+    if r.chance(0.01) {
+        let size = if r.chance(0.5) { &mut width } else { &mut height };
+        *size = r.pick(&[0, 16385, u32::MAX]);
+    }
     let mut number = rules::photograph(bytes.len(), width, height, stride);
     if number == 0 {
         number = camera.as_ref().map_or(0, rules::camera);
