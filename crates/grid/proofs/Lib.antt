@@ -2,3 +2,4 @@
 pub mod Modules
 pub mod Candidates
 pub mod Thinning
+pub mod SameGrid

@@ -13,6 +13,7 @@ use Rattle.number.specs.Numbers as number
 use Rattle.ieee.specs.Floats.{if_then_else_}
 use Rattle.sampling.specs.Photographs.{goodSize, goodPhotograph}
 use Rattle.sampling.proofs.Inside.{Sized}
+use Rattle.grid.specs.Grids.{bits, goodGrid}
 use Rattle.refine.specs.Refine.{Request, Photograph, Check, check, first, entryChecks, entry}
 use Rattle.marking.specs.Marking.{area, markingEntry}
 
@@ -64,6 +65,15 @@ module _ (r : Request) (p : Photograph) (enters : entry r p ≡ number.answer) w
       let one = passed (goodSize (r .width) (r .height)) _ 0 enters in
       let two = passed (goodPhotograph (r .width) (r .height) (p .stride) (length (p .bytes))) _ 1 (one .1) in
       (one .0, two .0, two .1)
+
+  -- and so does check 3: a side has two modules at least
+  pub two-modules : 2 ≤ r .grid .dim
+  unfolding goodGrid
+  two-modules =
+      let d = r .grid .dim in
+      let grid = passed (goodGrid (r .grid)) _ 2 (photograph-checked .2) .0 in
+      let sides = both (leb 2 d && leb d 177 && leb (d * d) (length (r .grid .modules))) (bits (d * d) (r .grid .modules)) grid .0 in
+      leb-true 2 d (both (leb 2 d) (leb d 177) (both (leb 2 d && leb d 177) (leb (d * d) (length (r .grid .modules))) sides .0) .0)
 
   -- another photograph passes them all where it passes check 2
   pub other-photograph : (q : Photograph) → goodPhotograph (r .width) (r .height) (q .stride) (length (q .bytes)) ≡ true → entry r q ≡ number.answer

@@ -9,23 +9,40 @@ use lib.ListN.{length, getD, take, drop}
 use Rattle.number.specs.Numbers as number
 use Rattle.ieee.specs.Floats.{if_then_else_}
 use Rattle.consts.specs.declared.Settings.{Settings}
+use Rattle.sampling.specs.Photographs.{Pixel}
 use Rattle.look.specs.Sheets.{isRead, bit}
+use Rattle.grid.specs.Grids.{gridOf}
 use Rattle.refine.specs.declared.Answer.{Answer}
-use Rattle.refine.specs.Refine.{Request, Photograph, shown, readsOf}
+use Rattle.refine.specs.Refine.{Request, request, Photograph, shown, readsOf}
 use Rattle.marking.specs.Marking.{area, markingEntry, Marks}
+
+-- the request, with these modules lent for its grid
+abbrev pub lent : Request → List ℕ → Request
+lent r modules = request (r .width) (r .height) (gridOf (r .grid .dim) modules) (r .sx) (r .sy) (r .corners) (r .inverted) (r .view)
+
+-- how many modules its grid has
+abbrev pub cells : Request → ℕ
+cells r = r .grid .dim * r .grid .dim
 
 -- The request is what all calls share: width, height, rough corners, scales, grid, polarity and camera.
 module _ (t : Settings) (r : Request) where
-  -- a marking call that passes the entry checks and has ended as its contract says. The photograph's stride, its bytes between rows, and what sheet and copy held before are its own
+  -- A marking call that passes the entry checks and has ended as its contract says. Its own are the photograph with its stride and the bytes between rows, the bytes
+  -- behind the grid's modules, and what sheet and copy held before.
   pub record Call : Type 0 where
     pub photograph : Photograph
+    pub modules : List ℕ
     pub answer : Answer
     pub sheet : List ℕ
     pub sheet′ : List ℕ
     pub copy : List ℕ
     pub copy′ : List ℕ
-    pub ended : Marks t r photograph answer sheet sheet′ copy copy′
-    pub passes : markingEntry r photograph (length sheet) (length copy) ≡ number.answer
+    pub same-grid : take (cells r) modules ≡ take (cells r) (r .grid .modules)
+    pub ended : Marks t (lent r modules) photograph answer sheet sheet′ copy copy′
+    pub passes : markingEntry (lent r modules) photograph (length sheet) (length copy) ≡ number.answer
+
+  -- the pixels that the definition lists as read
+  abbrev pub readsIn : Call → List Pixel
+  readsIn a = readsOf t (lent r (a .modules)) (a .photograph)
 
   -- a pixel's byte in a sheet or a copy
   abbrev pub at : List ℕ → ℕ → ℕ → ℕ
@@ -47,10 +64,9 @@ module _ (t : Settings) (r : Request) where
 
   pub record Demand3 : Type 0 where
     -- 1. a call marks exactly the pixels that the definition lists as read, which all lie in the picture, and copies those alone
-    pub marked : (a : Call) (x y : ℕ) → x < r .width → y < r .height → at (a .sheet′) x y ≡ bit (isRead x y (readsOf t r (a .photograph)))
-    pub copied : (a : Call) (x y : ℕ) → x < r .width → y < r .height
-        → at (a .copy′) x y ≡ (if isRead x y (readsOf t r (a .photograph)) then shown (a .photograph) x y else 0)
-    pub inside : (a : Call) (x y : ℕ) → isRead x y (readsOf t r (a .photograph)) ≡ true → (x < r .width) × (y < r .height)
+    pub marked : (a : Call) (x y : ℕ) → x < r .width → y < r .height → at (a .sheet′) x y ≡ bit (isRead x y (readsIn a))
+    pub copied : (a : Call) (x y : ℕ) → x < r .width → y < r .height → at (a .copy′) x y ≡ (if isRead x y (readsIn a) then shown (a .photograph) x y else 0)
+    pub inside : (a : Call) (x y : ℕ) → isRead x y (readsIn a) ≡ true → (x < r .width) × (y < r .height)
     -- and bytes past width × height are untouched
     pub sheet-untouched : (a : Call) → drop (area r) (a .sheet′) ≡ drop (area r) (a .sheet)
     pub copy-untouched : (a : Call) → drop (area r) (a .copy′) ≡ drop (area r) (a .copy)
@@ -62,4 +78,5 @@ module _ (t : Settings) (r : Request) where
     pub copy-returns : (a b : Call) → OverTheCopy a b → b .answer ≡ a .answer
     pub copy-again : (a b : Call) → OverTheCopy a b → SameMarks a b
     -- and the blanked copy passes the entry checks, with a sheet and a copy that are long enough
-    pub copy-passes : (a : Call) (q : Photograph) (s c : ℕ) → q .stride ≡ r .width → area r ≤ length (q .bytes) → area r ≤ s → area r ≤ c → markingEntry r q s c ≡ number.answer
+    pub copy-passes : (a : Call) (q : Photograph) (s c : ℕ) → q .stride ≡ r .width → area r ≤ length (q .bytes) → area r ≤ s → area r ≤ c
+        → markingEntry (lent r (a .modules)) q s c ≡ number.answer

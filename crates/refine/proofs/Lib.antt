@@ -6,3 +6,4 @@ pub mod Crossings
 pub mod EdgeByEdge
 pub mod RoundByRound
 pub mod Calls
+pub mod SameGrid
