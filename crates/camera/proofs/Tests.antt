@@ -1,6 +1,6 @@
 -- What a test in the code says of the condition in the definition. Each is the table of its two or three truth values. Assumes nothing.
-use mathlib.Core.Path.{_≡_, sym, _∙_}
-use mathlib.Core.Bool.{Bool, true, false, not, _&&_, and-assoc}
+use mathlib.Core.Path.{_≡_, refl, sym, _∙_}
+use mathlib.Core.Bool.{Bool, true, false, not, _&&_, and-assoc, true≢false}
 use lib.Ieee.{Float, eq, ne}
 use borrow.Author.Tests.{not-true, not-false}
 
@@ -23,3 +23,8 @@ agree x y h = not-false (eq x y) h
 -- two conditions that one call decides, behind others that hold
 pub and-pair : (a b c : Bool) {t : Bool} → a ≡ true → (b && c) ≡ t → (a && b && c) ≡ t
 and-pair a b c e h = rw (and-assoc a b c, h, e)
+
+-- two conditions that hold together
+pub both : (a b : Bool) → (a && b) ≡ true → (a ≡ true) × (b ≡ true)
+both true b h = (refl, h)
+both false b h = absurd (true≢false (sym h))

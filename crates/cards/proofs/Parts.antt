@@ -10,8 +10,9 @@ use lib.Dec.{leb, eqb}
 use lib.ListN.{length}
 use Rattle.ieee.specs.Floats.{if_then_else_}
 use Rattle.number.specs.Numbers as number
+use Rattle.camera.proofs.Tests.{both}
 use Rattle.cards.specs.JobCard.{startAt, contents, hasFields, isWhole, goodCard, fieldNumber, fieldPart}
-use Rattle.cards.proofs.Walks.{both, fewer, broken, no-header}
+use Rattle.cards.proofs.Walks.{fewer, broken, no-header}
 
 pub not-found : (card : List ℕ) (t : ℕ) → (leb 1 t && leb t 8 && goodCard card) ≡ false → ([] ≡ fieldPart card t) × (number.card ≡ fieldNumber card t)
 unfolding fieldPart fieldNumber

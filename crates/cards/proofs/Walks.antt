@@ -9,6 +9,7 @@ use borrow.Author.Tests.{le-leb, lt-leb, eq-eqb, ne-eqb, leb-true}
 use lib.Dec.{leb, eqb}
 use lib.ListN.{length, take, drop}
 use Rattle.ieee.specs.Floats.{if_then_else_}
+use Rattle.camera.proofs.Tests.{both}
 use Rattle.cards.specs.Fields.{byteAt}
 use Rattle.cards.specs.JobCard.{sizeAt, startAt, startOf, contents, suits, hasField, hasFields}
 use Rattle.cards.specs.declared.job_card.Ends.{Ends}
@@ -55,10 +56,6 @@ unfolding hasFields
 row card t some =
     let behind : t ≡ suc (t - 1) = omega arith in
     ap (hasFields card) behind ∙ ap (λ (n : ℕ). hasFields card (t - 1) && hasField card n) (sym behind)
-
-pub both : (a b : Bool) → (a && b) ≡ true → (a ≡ true) × (b ≡ true)
-both true b e = (refl, e)
-both false b e = (e, cc)
 
 fields-before : (card : List ℕ) (m d n : ℕ) → n ≡ m + d → hasFields card n ≡ true → hasFields card m ≡ true
 unfolding hasFields

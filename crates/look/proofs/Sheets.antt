@@ -5,7 +5,7 @@ use mathlib.Core.Path.{_≡_, refl, sym, ap, ap₂, _∙_, subst}
 use Prim.Native.Nat.{ℕ, zero, suc, _+_, _*_, _/_, _%_, _≤_, _<_, suc-le-suc}
 use native.Mathlib.Nat.{not-suc-le-zero, le-of-suc-le-suc, zero-lt-suc, mod-lt, div-lt-iff-lt-mul, mul-comm, le-trans, div-add-mod', le-refl}
 use native.Mathlib.Numerals.{add-one}
-use mathlib.Core.Bool.{Bool, true, false, _&&_, _||_}
+use mathlib.Core.Bool.{Bool, true, false, _&&_, _||_, true≢false}
 use mathlib.Core.List.{List, [], _∷_, _++_}
 use lib.Dec.{T, eqb, eqb-refl}
 use lib.ListN.{getD, length, set, drop, List·getD-append, length-set, replicate, length-replicate, getD-replicate}
@@ -73,6 +73,17 @@ read-each P w h (c ∷ cs) b f = (
       (and-both (eqb (c .column) (c .column)) (eqb (c .row) (c .row)) (eqb-refl (c .column)) (eqb-refl (c .row)))),
   read-each P w h cs (b .1) (λ x y hx hy r. f x y hx hy (or-right (eqb x (c .column) && eqb y (c .row)) (isRead x y cs) r)),
 )
+
+-- what holds of each pixel of a list holds of one that is in it
+pub each-read : (P : Pixel → Type 0) (x y : ℕ) (cs : List Pixel) → Each P cs → isRead x y cs ≡ true → P (pixel x y)
+each-read P x y [] b r = absurd (true≢false (sym r))
+each-read P x y (c ∷ cs) b r = go (eqb x (c .column)) refl (eqb y (c .row)) refl r (each-read P x y cs (b .1))
+  where
+    go : (s : Bool) → eqb x (c .column) ≡ s → (t : Bool) → eqb y (c .row) ≡ t → ((s && t) || isRead x y cs) ≡ true
+        → (isRead x y cs ≡ true → P (pixel x y)) → P (pixel x y)
+    go true es true et k rest = rw (eqb-true x (c .column) es, eqb-true y (c .row) et) (b .0)
+    go true es false et k rest = rest k
+    go false es t et k rest = rest k
 
 -- ---- what they hold at a place
 

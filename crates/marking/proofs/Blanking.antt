@@ -2,13 +2,13 @@
 -- Assumes nothing.
 use mathlib.Core.Path.{_≡_, sym, ap, ap₂, _∙_}
 use Prim.Native.Nat.{ℕ, zero, suc, _+_, _-_, _*_, _/_, _%_, _≤_, _<_}
-use native.Mathlib.Nat.{le-trans, mul-comm, mul-le-mul-left, mul-le-mul-right, suc-mul, zero-mul, add-zero}
+use native.Mathlib.Nat.{le-trans, mul-comm, mul-le-mul-right, suc-mul, zero-mul, add-zero}
 use native.Mathlib.Numerals.{add-one}
 use native.Mathlib.Omega.{arith}
 use mathlib.Core.Bool.{true}
 use mathlib.Core.List.{List, _++_}
-use lib.ListN.{length, getD, set, drop, length-set}
-use Rattle.sampling.specs.Photographs.{Photo, photo, goodPhotograph}
+use lib.ListN.{length, getD, set, drop}
+use Rattle.sampling.specs.Photographs.{photo, goodPhotograph}
 use Rattle.sampling.proofs.Pixels.{place-column, place-row}
 use Rattle.sampling.proofs.Inside.{photograph-checked}
 use Rattle.look.specs.Sheets.{table}

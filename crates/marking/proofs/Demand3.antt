@@ -1,26 +1,25 @@
 -- Demand 3, of the marking calls: `demand-3` proves what specs/Demand3 states, of all settings and every request.
 -- Why: a call that passes the entry checks leaves the sheet and the copy of its run in front of the bytes past width × height, and look's demand 3 holds of every
 -- run. Two calls take the same steps, since no module behind the grid's own is looked at. Bytes that begin with the blanked copy, in rows of width bytes, show at each pixel of the picture what the copy has there. Assumes nothing.
-use mathlib.Core.Path.{_≡_, refl, sym, ap, _∙_}
+use mathlib.Core.Path.{_≡_, sym, ap, _∙_}
 use mathlib.Core.Logic.{_↔_}
 use Prim.Native.Nat.{ℕ, _+_, _*_, _≤_, _<_}
 use native.Mathlib.Omega.{arith}
-use mathlib.Core.Bool.{Bool, true, false, _&&_, _||_, true≢false}
-use mathlib.Core.List.{List, [], _∷_, _++_}
-use lib.Dec.{T, eqb}
+use mathlib.Core.Bool.{Bool, true, false}
+use mathlib.Core.List.{List, _++_}
+use lib.Dec.{T}
 use lib.ListN.{length, getD, take, drop}
 use lib.Seq.{getD-take, take-at, drop-at}
-use borrow.Author.Tests.{eqb-true}
 use Rattle.number.specs.Numbers as number
 use Rattle.ieee.specs.Floats.{if_then_else_}
 use Rattle.consts.specs.declared.Settings.{Settings}
-use Rattle.sampling.specs.Photographs.{Photo, Pixel, pixel}
-use Rattle.sampling.proofs.Pixels.{Each, Inside, place-lt}
+use Rattle.sampling.specs.Photographs.{Photo, pixel}
+use Rattle.sampling.proofs.Pixels.{Inside, place-lt}
 use Rattle.sampling.proofs.Inside.{Sized, size-checked}
 use Rattle.look.specs.Look.{Look, value}
 use Rattle.look.specs.Sheets.{isRead, bit, sheet, copy}
 use Rattle.look.proofs.Inside.{reads-inside}
-use Rattle.look.proofs.Sheets.{is-true, sheet-at, copy-at, length-sheet, length-copy}
+use Rattle.look.proofs.Sheets.{is-true, each-read, sheet-at, copy-at, length-sheet, length-copy}
 use Rattle.look.proofs.Demand3 as look
 use Rattle.grid.proofs.SameGrid.{probes-same}
 use Rattle.refine.specs.declared.Answer.{Answer}
@@ -28,24 +27,13 @@ use Rattle.refine.specs.Refine.{Request, Photograph, sourceCorners, sceneOf, sh
 use Rattle.refine.proofs.SameGrid.{rounds-same}
 use Rattle.marking.specs.Marking.{area, markingEntry, markingNumber, refineMarking, sheetAfter, copyAfter}
 use Rattle.marking.specs.Demand3.{lent, Call, readsIn, at, SameMarks, AgreesWhereMarked, OverTheCopy, Demand3}
-use Rattle.marking.proofs.Entered.{photograph-checked, two-modules, other-photograph, good-rows, entered, enters-marking}
+use Rattle.marking.proofs.Entered.{photograph-passes, two-modules, other-photograph, good-rows, entered, enters-marking}
 
 -- ---- lists
 
 -- a list at a place in its front
 front-at : (n : ℕ) (l f : List ℕ) (i : ℕ) → take n l ≡ f → i < n → getD l i 0 ≡ getD f i 0
 front-at n l f i e h = sym (getD-take n l i 0 h) ∙ ap (λ (m : List ℕ). getD m i 0) e
-
--- what holds of each pixel of a list holds of one that is in it
-each-read : (P : Pixel → Type 0) (x y : ℕ) (cs : List Pixel) → Each P cs → isRead x y cs ≡ true → P (pixel x y)
-each-read P x y [] b r = absurd (true≢false (sym r))
-each-read P x y (c ∷ cs) b r = go (eqb x (c .column)) refl (eqb y (c .row)) refl r (each-read P x y cs (b .1))
-  where
-    go : (s : Bool) → eqb x (c .column) ≡ s → (t : Bool) → eqb y (c .row) ≡ t → ((s && t) || isRead x y cs) ≡ true
-        → (isRead x y cs ≡ true → P (pixel x y)) → P (pixel x y)
-    go true es true et k rest = rw (eqb-true x (c .column) es, eqb-true y (c .row) et) (b .0)
-    go true es false et k rest = rest k
-    go false es t et k rest = rest k
 
 -- a bit that is 1
 one-true : (b : Bool) → bit b ≡ 1 → T b
@@ -130,7 +118,7 @@ module _ (t : Settings) (r : Request) where
 
   -- so its size is within the limits
   size : Call t r → Sized (r .width) (r .height)
-  size a = size-checked (r .width) (r .height) (photograph-checked (own a) (a .photograph) (enters a) .0)
+  size a = size-checked (r .width) (r .height) (photograph-passes (own a) (a .photograph) (enters a) .0)
 
   -- what it reads lies in the picture
   inside : (a : Call t r) (x y : ℕ) → isRead x y (readsIn t r a) ≡ true → Inside (r .width) (r .height) (pixel x y)

@@ -4,13 +4,14 @@ use mathlib.Core.Path.{_≡_, refl, sym, ap, _∙_, subst}
 use Prim.Native.Nat.{ℕ, zero, suc, _+_, _-_, _*_, _≤_, _<_}
 use native.Mathlib.Nat.{mul-comm, suc-mul, le-refl}
 use native.Mathlib.Omega.{arith}
-use mathlib.Core.Bool.{Bool, true, false, not, _&&_, true≢false}
+use mathlib.Core.Bool.{Bool, true, false, not, _&&_}
 use mathlib.Core.List.{List, [], _∷_, _++_}
 use lib.Dec.{leb, eqb, eqb·suc-zero}
 use lib.ListN.{length, drop}
 use borrow.Author.Tests.{leb-true, le-leb, lt-leb, ne-eqb, not-true}
 use Rattle.number.specs.Numbers as number
 use Rattle.ieee.specs.Floats.{if_then_else_}
+use Rattle.camera.proofs.Tests.{both}
 use Rattle.sampling.specs.Photographs.{goodSize, goodPhotograph}
 use Rattle.sampling.proofs.Inside.{Sized}
 use Rattle.grid.specs.Grids.{bits, goodGrid}
@@ -18,11 +19,6 @@ use Rattle.refine.specs.Refine.{Request, Photograph, Check, check, first, entry
 use Rattle.marking.specs.Marking.{area, markingEntry}
 
 -- ---- a list of checks
-
--- a test of two parts that holds
-both : (a b : Bool) → (a && b) ≡ true → (a ≡ true) × (b ≡ true)
-both true b h = (refl, h)
-both false b h = absurd (true≢false (sym h))
 
 -- where the number is 0 the first check passes, and so do those behind it
 passed : (b : Bool) (m n : ℕ) → (if b then m else suc n) ≡ number.answer → (b ≡ true) × (m ≡ number.answer)
@@ -58,10 +54,10 @@ behind (suc n) m h = absurd (never (rw (eqb·suc-zero n) at h))
 
 module _ (r : Request) (p : Photograph) (enters : entry r p ≡ number.answer) where
   -- checks 1 and 2 pass, and so do those behind them
-  pub photograph-checked : (goodSize (r .width) (r .height) ≡ true) × (goodPhotograph (r .width) (r .height) (p .stride) (length (p .bytes)) ≡ true)
+  pub photograph-passes : (goodSize (r .width) (r .height) ≡ true) × (goodPhotograph (r .width) (r .height) (p .stride) (length (p .bytes)) ≡ true)
       × (first (drop 2 (entryChecks r p)) ≡ number.answer)
   unfolding entry
-  photograph-checked =
+  photograph-passes =
       let one = passed (goodSize (r .width) (r .height)) _ 0 enters in
       let two = passed (goodPhotograph (r .width) (r .height) (p .stride) (length (p .bytes))) _ 1 (one .1) in
       (one .0, two .0, two .1)
@@ -71,14 +67,14 @@ module _ (r : Request) (p : Photograph) (enters : entry r p ≡ number.answer) w
   unfolding goodGrid
   two-modules =
       let d = r .grid .dim in
-      let grid = passed (goodGrid (r .grid)) _ 2 (photograph-checked .2) .0 in
+      let grid = passed (goodGrid (r .grid)) _ 2 (photograph-passes .2) .0 in
       let sides = both (leb 2 d && leb d 177 && leb (d * d) (length (r .grid .modules))) (bits (d * d) (r .grid .modules)) grid .0 in
       leb-true 2 d (both (leb 2 d) (leb d 177) (both (leb 2 d && leb d 177) (leb (d * d) (length (r .grid .modules))) sides .0) .0)
 
   -- another photograph passes them all where it passes check 2
   pub other-photograph : (q : Photograph) → goodPhotograph (r .width) (r .height) (q .stride) (length (q .bytes)) ≡ true → entry r q ≡ number.answer
   unfolding entry
-  other-photograph q good = rw (photograph-checked .0, good) (photograph-checked .2)
+  other-photograph q good = rw (photograph-passes .0, good) (photograph-passes .2)
 
 -- width × height bytes or more, in rows of width bytes, pass check 2
 pub good-rows : (w h n : ℕ) → Sized w h → w * h ≤ n → goodPhotograph w h w n ≡ true

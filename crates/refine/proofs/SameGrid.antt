@@ -8,7 +8,6 @@ use lib.Dec.{eqb}
 use Rattle.number.specs.Numbers as number
 use Rattle.ieee.specs.Floats.{if_then_else_, _⊘_, _≺_, float, f1e-9}
 use Rattle.consts.specs.declared.Settings.{Settings}
-use Rattle.pixel.specs.Pixels.{corner}
 use Rattle.pixel.specs.declared.SourcePixel.{SourcePixel}
 use Rattle.homography.specs.declared.PerspectiveTransform.{PerspectiveTransform}
 use Rattle.homography.specs.declared.Mapped.{Mapped}

