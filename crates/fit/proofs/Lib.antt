@@ -1,9 +1,8 @@
 -- The theorems of `fit`, and what the functions' proofs cite. Assumes nothing.
 
--- theorems to be read alone, and the laws of order under them
+-- theorems to be read alone, and what they rest on
 pub mod SortOrders
 pub mod Rising
-pub mod Order
 -- what the functions' proofs cite
 pub mod Lists
 pub mod Sorting

@@ -8,11 +8,13 @@ pub mod Examples
 -- patterns and tests
 pub mod Patterns
 pub mod Inputs
+pub mod Order
 -- whole numbers
 pub mod Whole
 pub mod AtMost
 pub mod WholeLaws
 pub mod Trimmed
+pub mod WholeGuess
 pub mod Larger
 -- the root
 pub mod Roots

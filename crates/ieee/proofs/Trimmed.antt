@@ -1,13 +1,16 @@
 -- The whole part of a float as a `u32`, by what the two comparisons of `whole_part` say. Assumes nothing.
-use mathlib.Core.Path.{_≡_, refl, sym, ap, _∙_, subst}
-use Prim.Native.Nat.{ℕ, _+_, _-_, _*_, _/_, _^_, _≤_, _<_, min}
-use native.Mathlib.Nat.{div-le-of-le-mul, le-div-iff-mul-le, mul-comm, le-of-lt, zero-div}
+use mathlib.Core.Path.{_≡_, refl, sym, ap, subst}
+use Prim.Native.Nat.{ℕ, zero, suc, zero-le, _+_, _-_, _*_, _/_, _^_, _≤_, _<_, min}
+use native.Mathlib.Nat.{div-le-of-le-mul, le-div-iff-mul-le, mul-comm, le-of-lt}
 use native.Mathlib.Omega.{arith}
-use mathlib.Core.Bool.{true, false, true≢false}
-use lib.IntN.{pos}
+use mathlib.Core.Bool.{Bool, true, false, not, _&&_, cond, Bool·beq, true≢false}
+use lib.IntN.{ℤ, pos}
 use lib.Dec.{T, ltb, lt→ltb}
 use borrow.Author.Tests.{ltb-true, ltb-false}
-use lib.Ieee.{Float, nan, inf, fin, binary64, up, down, lt, ofBits, toUnsigned}
+use lib.Ieee.{Float, nan, inf, fin, Format, prec, emax, low, binary64, up, down, odd, units, round, sum, add, lt, eq, le, isNan, ofBits, toUnsigned}
+use Rattle.ieee.specs.Floats.{f0, _⊕_, _≼_}
+use Rattle.ieee.specs.Parts.{isFinite}
+use Rattle.ieee.proofs.Order.{zeros, else-more}
 use lib.Ieee.Fits.{down-pos}
 
 above : (m u d : ℕ) → 0 < d → 4294967295 * d < m * u → min (m * u / d) 4294967295 ≡ 4294967295
@@ -40,37 +43,45 @@ capped (inf false) h = refl
 capped (fin true m e) h = absurd (true≢false (sym h))
 capped (fin false m e) h = sym (above m (up e) (down e) (down-pos e) (plain-lt m (up e) (down e) h))
 
--- at most 0, or a NaN
-pub nothing : (x : Float) → lt (ofBits binary64 0x41ef_ffff_ffe0_0000) x ≡ false → lt (ofBits binary64 0) x ≡ false → 0 ≡ toUnsigned 32 x
-unfolding lt ofBits toUnsigned
-nothing nan h k = refl
-nothing (inf true) h k = refl
-nothing (inf false) h k = absurd (true≢false k)
-nothing (fin true m e) h k = refl
-nothing (fin false m e) h k = go (m * up e) (down e) (ltb-false (0 * 1 * down e) (m * up e * 1) k)
+-- below 0, or a NaN
+pub nothing : (x : Float) → (f0 ≼ x) ≡ false → 0 ≡ toUnsigned 32 x
+unfolding lt eq le ofBits toUnsigned isFinite
+nothing nan h = refl
+nothing (inf true) h = refl
+nothing (inf false) h = absurd (true≢false h)
+nothing (fin true m e) h = refl
+nothing (fin false m e) h = absurd (none (m * up e * 1) (down e) (ltb-true (m * up e * 1) (0 * 1 * down e) (else-more f0 (fin false m e) refl refl h)))
   where
-    none : (q : ℕ) → q ≡ 0 → 0 ≡ min q 4294967295
-    none q z = omega arith
+    none : (a d : ℕ) → a < 0 * 1 * d → ⊥
+    none a d l = omega arith
 
-    go : (a d : ℕ) → a * 1 ≤ 0 * 1 * d → 0 ≡ min (a / d) 4294967295
-    go a d l =
-        let z : a ≡ 0 = omega arith in
-        none (a / d) (ap (λ (b : ℕ). b / d) z ∙ zero-div d)
-
--- between
+-- from 0 to the end of the range
 pub record Between (x : Float) : Type 0 where
   pub over : T (lt (fin true 1 (pos 0)) x)
   pub under : T (lt x (fin false 1 (pos 64)))
   pub fits : toUnsigned 64 x ≤ 4294967295
   pub same : toUnsigned 64 x ≡ toUnsigned 32 x
 
-pub between : (x : Float) → lt (ofBits binary64 0x41ef_ffff_ffe0_0000) x ≡ false → lt (ofBits binary64 0) x ≡ true → Between x
-unfolding lt ofBits toUnsigned
-between nan h k = absurd (true≢false (sym k))
-between (inf true) h k = absurd (true≢false (sym k))
-between (inf false) h k = absurd (true≢false h)
-between (fin true m e) h k = absurd (true≢false (sym k))
-between (fin false m e) h k =
+pub between : (x : Float) → (f0 ≼ x) ≡ true → lt (ofBits binary64 0x41ef_ffff_ffe0_0000) x ≡ false → Between x
+unfolding lt eq le ofBits toUnsigned
+between nan k h = absurd (true≢false (sym k))
+between (inf true) k h = absurd (true≢false (sym k))
+between (inf false) k h = absurd (true≢false h)
+between (fin true m e) k h =
+    let z = zeros (0 * 1 * down e) (m * up e * 1) k in
+    record {
+      over = lt→ltb (m * up e * 1) (1 * 1 * down e) (first (m * up e) (down e) (down-pos e) z);
+      under = lt→ltb 0 (m * up e * 1 + 1 * 2 ^ 64 * down e) (second (m * up e) (down e) (down-pos e));
+      fits = zero-le;
+      same = refl;
+    }
+  where
+    first : (a d : ℕ) → 0 < d → a * 1 + 0 * 1 * d ≤ 0 → a * 1 < 1 * 1 * d
+    first a d p l = omega arith
+
+    second : (a d : ℕ) → 0 < d → 0 < a * 1 + 1 * 2 ^ 64 * d
+    second a d p = omega arith
+between (fin false m e) k h =
     let small = plain-le m (up e) (down e) h in
     let q = below m (up e) (down e) small in
     record {
@@ -91,3 +102,34 @@ between (fin false m e) h k =
 
     fourth : (a : ℕ) → a ≤ 4294967295 → min a (2 ^ 64 - 1) ≡ min a (2 ^ 32 - 1)
     fourth a l = omega arith
+
+-- ---- a guess
+
+units-number : (f : Format) (s : Bool) (q k : ℕ) → T (not (isNan (units f s q k)))
+unfolding units odd isNan
+units-number f s q k = go (ltb (q * 2 ^ k) (2 ^ (low f + suc (emax f)))) q
+  where
+    go : (b : Bool) (q : ℕ) → T (not (isNan (cond b (odd (suc (prec f)) s q k (low f)) (inf s))))
+    go true zero = tt
+    go true (suc q) = tt
+    go false q = tt
+
+round-number : (f : Format) (s : Bool) (a c : ℕ) → T (not (isNan (round f s a c)))
+unfolding round
+round-number f s a c = units-number f s _ _
+
+sum-number : (f : Format) (s : Bool) (a : ℕ) (t : Bool) (b c : ℕ) → T (not (isNan (sum f s a t b c)))
+unfolding sum
+sum-number f s a t b c = go (Bool·beq s t) (ltb a b)
+  where
+    go : (p q : Bool) → T (not (isNan (cond p (round f s (a + b) c) (cond q (round f t (b - a) c) (round f (s && ltb b a) (a - b) c)))))
+    go true q = round-number f s (a + b) c
+    go false true = round-number f t (b - a) c
+    go false false = round-number f (s && ltb b a) (a - b) c
+
+-- a number that is not negative and a finite one have a sum
+pub sum-is-number : (x : Float) (t : Bool) (n : ℕ) (d : ℤ) → (f0 ≼ x) ≡ true → T (not (isNan (x ⊕ fin t n d)))
+unfolding lt eq le ofBits add isNan
+sum-is-number nan t n d h = absurd (true≢false (sym h))
+sum-is-number (inf s) t n d h = tt
+sum-is-number (fin s m e) t n d h = sum-number binary64 s (m * up e * down d) t (n * up d * down e) (down e * down d)

@@ -3,7 +3,9 @@
 mod root;
 
 ghost use mathlib.Core.Path.{_≡_};
+ghost use mathlib.Core.Bool.{true};
 ghost use lib.Ieee.{binary64, toBits, ofBits, toUnsigned};
+ghost use Rattle.ieee.specs.Floats.{f0, _≼_};
 ghost use Rattle.ieee.specs.Parts.{magnitude, isFinite, floorOf, ceilOf, larger};
 ghost use Rattle.ieee.specs.Root.{root};
 
@@ -89,16 +91,38 @@ pub fn ceil(x: f64) -> f64
     -floor(-x)
 }
 
-// x without its fraction: Rust's `x as u32`. Beyond either end of the range it is that end, and 0
-// for a NaN.
-pub fn whole_part(x: f64) -> u32
+// A first guess at x without its fraction, right in most runs but not by proof: `whole_part` tests it. The sum has no
+// room for a fraction and is rounded to the nearest whole number; the half that 2^52 lacks makes that the one below x.
+fn whole_guess(x: f64) -> u32
+    requires { ⌜ (f0 ≼ x) ≡ true ⌝ }
+{
+    (f64::to_bits(x + 4503599627370495.5) & 0xffff_ffff) as u32
+}
+
+// x without its fraction, by the digits of its bit pattern.
+fn whole_digits(x: f64) -> u32
+    requires { ⌜ (f0 ≼ x) ≡ true ⌝ }
     ensures { λ r. ⌜ r ≡ toUnsigned 32 x ⌝ }
 {
     if x > 4294967295.0 {
         return 4294967295;
     }
-    if x > 0.0 {
-        return std::num::truncating_f64_to_u64(x) as u32;
+    std::num::truncating_f64_to_u64(x) as u32
+}
+
+// x without its fraction: Rust's `x as u32`. Beyond either end of the range it is that end, and 0
+// for a NaN.
+pub fn whole_part(x: f64) -> u32
+    ensures { λ r. ⌜ r ≡ toUnsigned 32 x ⌝ }
+{
+    if x >= 0.0 {
+        let w = whole_guess(x);
+        if w as f64 <= x {
+            if x - (w as f64) < 1.0 {
+                return w;
+            }
+        }
+        return whole_digits(x);
     }
     0
 }

@@ -2,17 +2,17 @@
 -- width - 1, and the column to its right is cut there; the same for the rows. Assumes nothing.
 use mathlib.Core.Path.{_≡_, refl, sym, ap, _∙_, subst}
 use Prim.Native.Nat.{ℕ, _+_, _-_, _*_, _/_, _^_, _≤_, _<_, min, zero-le}
-use native.Mathlib.Nat.{le-trans, div-le-of-le-mul, mul-comm, mul-right-comm, mul-one, le-of-mul-le-mul-right, mul-lt-mul-of-pos-right, le-of-lt}
+use native.Mathlib.Nat.{div-le-of-le-mul, mul-comm, mul-right-comm, mul-one, le-of-mul-le-mul-right}
 use native.Mathlib.Omega.{arith}
 use mathlib.Core.Bool.{Bool, true, false, not, _&&_, _||_, true≢false}
 use lib.IntN.{ℤ}
-use lib.Dec.{leb, lit<}
-use lib.Pow.{pow-add, pow-pos}
+use lib.Dec.{leb}
 use borrow.Author.Tests.{ltb-false, leb-true, not-false}
-use lib.Ieee.{Float, nan, inf, fin, binary64, up, down, lt, ofInt, toUnsigned}
-use lib.Ieee.Exact.{HasValue, round-exact}
+use lib.Ieee.{Float, nan, inf, fin, up, down, lt, toUnsigned}
+use lib.Ieee.Exact.{HasValue}
 use lib.Ieee.Fits.{down-pos}
 use Rattle.ieee.specs.Parts.{isFinite}
+use Rattle.ieee.proofs.WholeGuess.{float-value}
 use Rattle.ieee.specs.Floats.{if_then_else_, _≺_, f0, float, wholePart}
 use Rattle.pixel.specs.declared.SourcePixel.{SourcePixel}
 use Rattle.camera.specs.declared.Placed.{Placed}
@@ -29,14 +29,6 @@ use Rattle.sampling.specs.Sampling.{within, outside, beyond, spot, touch
 use Rattle.sampling.proofs.Pixels.{Each, Inside}
 
 -- ---- the whole part of a value that is not above n
-
--- a whole number below 2 to the 53 is a float of that value
-float-value : (n : ℕ) → n < 2 ^ 53 → HasValue (float n) false n 1
-unfolding ofInt
-float-value n h =
-    round-exact binary64 false n 1 n 1074 (lit< tt) h
-    (subst (λ (k : ℕ). n * 2 ^ 1074 < k) (sym (pow-add 2 1024 1074)) (mul-lt-mul-of-pos-right {n = 2 ^ 1024} (le-trans h (le-of-lt (lit< tt))) (pow-pos 1074)))
-    (sym (mul-one (n * 2 ^ 1074)))
 
 not-below : (n : ℕ) (y : Float) (m : ℕ) (e : ℤ) → HasValue y false n 1 → lt y (fin false m e) ≡ false → m * up e / down e ≤ n
 unfolding lt

@@ -1,11 +1,16 @@
 -- Where a sample falls, by the tests on the way: what each test of the code says of the definition. Each law unfolds the definition and
 -- puts the tests' results in. Assumes nothing.
 use mathlib.Core.Path.{_≡_, refl, sym, ap, _∙_}
-use Prim.Native.Nat.{ℕ, _-_}
-use mathlib.Core.Bool.{Bool, true, false, _&&_}
-use lib.Ieee.{Float}
+use Prim.Native.Nat.{ℕ, _-_, _^_, _<_}
+use native.Mathlib.Omega.{arith}
+use mathlib.Core.Bool.{Bool, true, false, not, _&&_, _||_, and-false, true≢false}
+use lib.Ieee.{Float, ofBits}
+use borrow.Author.Tests.{not-true, not-false}
+use Rattle.camera.proofs.Tests.{both}
 use Rattle.ieee.specs.Parts.{isFinite}
-use Rattle.ieee.specs.Floats.{if_then_else_, _≺_, f0, float}
+use Rattle.ieee.specs.Floats.{if_then_else_, _≺_, _≼_, f0, float}
+use Rattle.ieee.proofs.Order.{not-more, else-more, amid-finite}
+use Rattle.ieee.proofs.WholeGuess.{float-finite}
 use Rattle.pixel.specs.declared.SourcePixel.{SourcePixel}
 use Rattle.camera.specs.declared.CameraCalibration.{CameraCalibration}
 use Rattle.camera.specs.declared.Placed.the-variants.{On, Nowhere}
@@ -21,15 +26,53 @@ use Rattle.sampling.specs.Sampling.{clamped, outside, within, beyond, sp
 
 -- ---- beyond the edges
 
+-- x from 0 to n: two comparisons say that it is finite and beyond neither end
+between : (n : ℕ) → n < 2 ^ 53 → (x : Float) → ((f0 ≼ x) && (x ≼ float n)) ≡ (isFinite x && not (x ≺ f0) && not (float n ≺ x))
+unfolding ofBits isFinite
+between n small x = go (isFinite x) refl (f0 ≼ x) refl (x ≼ float n) refl
+  where
+    zero : isFinite f0 ≡ true
+    zero = refl
+
+    end : isFinite (float n) ≡ true
+    end = float-finite n small
+
+    go : (f : Bool) → isFinite x ≡ f → (a : Bool) → (f0 ≼ x) ≡ a → (b : Bool) → (x ≼ float n) ≡ b → (a && b) ≡ (f && not (x ≺ f0) && not (float n ≺ x))
+    go true hf true ha true hb = rw (not-more f0 x ha, not-more x (float n) hb)
+    go true hf true ha false hb = rw (not-more f0 x ha, else-more x (float n) hf end hb)
+    go true hf false ha b hb = rw (else-more f0 x zero hf ha)
+    go false hf true ha true hb = absurd (true≢false (sym (amid-finite x (float n) end ha hb) ∙ hf))
+    go false hf true ha false hb = refl
+    go false hf false ha b hb = refl
+
+gathered : (f g a b c d : Bool) → ((f && not a && not c) && (g && not b && not d)) ≡ (f && g && not (a || b || c || d))
+gathered true true true b c d = refl
+gathered true true false true true d = refl
+gathered true true false true false d = refl
+gathered true true false false true d = refl
+gathered true true false false false d = refl
+gathered true false a b c d = and-false (true && not a && not c)
+gathered false g a b c d = refl
+
+module _ (w h : ℕ) (wide : w < 2 ^ 32) (high : h < 2 ^ 32) (x y : Float) where
+  inside-is : (((f0 ≼ x) && (x ≼ float (w - 1))) && ((f0 ≼ y) && (y ≼ float (h - 1)))) ≡ (isFinite x && isFinite y && not (outside w h x y))
+  unfolding outside
+  inside-is = rw (between (w - 1) (omega arith) x, between (h - 1) (omega arith) y) (gathered (isFinite x) (isFinite y) (x ≺ f0) (y ≺ f0) (float (w - 1) ≺ x) (float (h - 1) ≺ y))
+
+  -- what each comparison comes to, in the order of the code
+  pub inside-before : (f0 ≼ x) ≡ false → false ≡ (isFinite x && isFinite y && not (outside w h x y))
+  inside-before e = sym (rw e) ∙ inside-is
+
+  pub inside-after : (f0 ≼ x) ≡ true → {l : ℕ} → l ≡ w - 1 → (x ≼ float l) ≡ false → false ≡ (isFinite x && isFinite y && not (outside w h x y))
+  inside-after e {l} hl f = sym (rw (e, sym (ap (λ (n : ℕ). x ≼ float n) hl) ∙ f)) ∙ inside-is
+
+  pub inside-above : (f0 ≼ x) ≡ true → {l : ℕ} → l ≡ w - 1 → (x ≼ float l) ≡ true → (f0 ≼ y) ≡ false → false ≡ (isFinite x && isFinite y && not (outside w h x y))
+  inside-above e {l} hl f g = sym (rw (e, sym (ap (λ (n : ℕ). x ≼ float n) hl) ∙ f, g)) ∙ inside-is
+
+  pub inside-below : (f0 ≼ x) ≡ true → {l : ℕ} → l ≡ w - 1 → (x ≼ float l) ≡ true → (f0 ≼ y) ≡ true → {k : ℕ} → k ≡ h - 1 → (y ≼ float k) ≡ (isFinite x && isFinite y && not (outside w h x y))
+  inside-below e {l} hl f g {k} hk = ap (λ (n : ℕ). y ≼ float n) hk ∙ sym (rw (e, sym (ap (λ (n : ℕ). x ≼ float n) hl) ∙ f, g)) ∙ inside-is
+
 module _ (w h : ℕ) (x y : Float) where
-  pub off-right : (x ≺ f0) ≡ false → (y ≺ f0) ≡ false → {l : ℕ} → l ≡ w - 1 → (float l ≺ x) ≡ true → true ≡ outside w h x y
-  unfolding outside
-  off-right e f {l} hl g = rw (e, f, sym (ap (λ (n : ℕ). float n ≺ x) hl) ∙ g, outside)
-
-  pub off-below : (x ≺ f0) ≡ false → (y ≺ f0) ≡ false → {l : ℕ} → l ≡ w - 1 → (float l ≺ x) ≡ false → {k : ℕ} → k ≡ h - 1 → (float k ≺ y) ≡ outside w h x y
-  unfolding outside
-  off-below e f {l} hl g {k} hk = ap (λ (n : ℕ). float n ≺ y) hk ∙ rw (e, f, sym (ap (λ (n : ℕ). float n ≺ x) hl) ∙ g, outside)
-
   pub clamped-spot : (b : BorderMode) → b ≡ Clamp → {l : ℕ} → l ≡ w - 1 → {u : Float} → u ≡ clamped x (float l) → {k : ℕ} → k ≡ h - 1 → {v : Float} → v ≡ clamped y (float k) → {s : Spot}
       → s ≡ within w h u v → s ≡ beyond w h b x y
   unfolding beyond
@@ -41,6 +84,12 @@ module _ (w h : ℕ) (x y : Float) where
 
 -- ---- the spot
 
+-- two finite coordinates that are not inside are outside
+else-outside : (a b c : Bool) → a ≡ true → b ≡ true → (a && b && not c) ≡ false → c ≡ true
+else-outside true true c e f h = not-false c h
+else-outside false b c e f h = absurd (true≢false (sym e))
+else-outside true false c e f h = absurd (true≢false (sym f))
+
 module _ (w h : ℕ) (b : BorderMode) (x y : Float) where
   pub off-x : isFinite x ≡ false → Off ≡ spot w h b x y
   unfolding spot
@@ -50,13 +99,16 @@ module _ (w h : ℕ) (b : BorderMode) (x y : Float) where
   unfolding spot
   off-y e f = rw (e, f, spot)
 
-  pub off-outside : isFinite x ≡ true → isFinite y ≡ true → outside w h x y ≡ true → beyond w h b x y ≡ spot w h b x y
+  pub off-outside : isFinite x ≡ true → isFinite y ≡ true → (isFinite x && isFinite y && not (outside w h x y)) ≡ false → beyond w h b x y ≡ spot w h b x y
   unfolding spot
-  off-outside e f o = rw (e, f, o, spot)
+  off-outside e f o = rw (e, f, else-outside (isFinite x) (isFinite y) (outside w h x y) e f o, spot)
 
-  pub in-within : isFinite x ≡ true → isFinite y ≡ true → outside w h x y ≡ false → within w h x y ≡ spot w h b x y
+  pub in-within : (isFinite x && isFinite y && not (outside w h x y)) ≡ true → within w h x y ≡ spot w h b x y
   unfolding spot
-  in-within e f o = rw (e, f, o, spot)
+  in-within i =
+      let t = both (isFinite x && isFinite y) (not (outside w h x y)) i in
+      let u = both (isFinite x) (isFinite y) (t .0) in
+      rw (u .0, u .1, not-true (outside w h x y) (t .1), spot)
 
 -- ---- the spot through a camera
 

@@ -53,11 +53,15 @@ spot w h b x y =
 
 -- ---- what it reads there, and what it shows
 
+-- the four pixels that a sample falls among
+abbrev pub cell : ℕ → ℕ → ℕ → ℕ → List Pixel
+cell x0 y0 x1 y1 = pixel x0 y0 ∷ pixel x1 y0 ∷ pixel x0 y1 ∷ pixel x1 y1 ∷ []
+
 -- the pixels that a sample reads: all four, also where a fraction is 0
 unfoldable pub touched : Spot → List Pixel
 touched Off = []
 touched (Edging v) = []
-touched (Among x0 y0 x1 y1 fx fy) = pixel x0 y0 ∷ pixel x1 y0 ∷ pixel x0 y1 ∷ pixel x1 y1 ∷ []
+touched (Among x0 y0 x1 y1 fx fy) = cell x0 y0 x1 y1
 
 unfoldable pub blend : ℕ → ℕ → ℕ → ℕ → Float → Float → Float
 blend v00 v10 v01 v11 fx fy =

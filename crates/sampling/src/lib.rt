@@ -3,13 +3,13 @@
 ghost use mathlib.Core.Path.{_≡_};
 ghost use Prim.Native.Nat.{_+_, _-_, _*_, min};
 ghost use lib.ListN.{set, getD};
+ghost use mathlib.Core.Bool.{_&&_, not};
 ghost use Rattle.ieee.specs.Floats.{float};
+ghost use Rattle.ieee.specs.Parts.{isFinite};
 ghost use Rattle.camera.specs.Camera.{rectifiedToSource};
 ghost use Rattle.sampling.specs.Photographs.{photo, sized as sizedBy, goodSize, goodPhotograph, photographNumber};
-ghost use Rattle.sampling.specs.Sampling.{clamped, outside as beyondEdges, within as amid, beyond as borderSpot, spot as spotOf, placedSpot, sceneSpot, goodView, sampleBilinear};
-ghost use Rattle.sampling.specs.Marks.{Shows};
-ghost use Rattle.sampling.specs.declared.Spot.the-variants.{Among};
-ghost use Rattle.sampling.specs.declared.Sampled.the-variants.{Luma};
+ghost use Rattle.sampling.specs.Sampling.{clamped, outside, within as amid, beyond as borderSpot, spot as spotOf, cell, blend, placedSpot, sceneSpot, goodView, sampleBilinear};
+ghost use Rattle.sampling.specs.Marks.{mark, Shows};
 use camera::CameraCalibration;
 use pixel::SourcePixel;
 
@@ -85,19 +85,18 @@ fn next(i: u32, n: u32) -> u32
     if i < end { i + 1 } else { end }
 }
 
-fn outside(width: u32, height: u32, x: f64, y: f64) -> bool
-    ensures { λ r. ⌜ r ≡ beyondEdges width height x y ⌝ }
+// Whether a place lies within the pixels' centres, which no NaN and no infinity does.
+fn is_inside(width: u32, height: u32, x: f64, y: f64) -> bool
+    ensures { λ r. ⌜ r ≡ (isFinite x && isFinite y && not (outside width height x y)) ⌝ }
 {
-    if x < 0.0 {
-        return true;
+    if x >= 0.0 {
+        if x <= last(width) as f64 {
+            if y >= 0.0 {
+                return y <= last(height) as f64;
+            }
+        }
     }
-    if y < 0.0 {
-        return true;
-    }
-    if x > last(width) as f64 {
-        return true;
-    }
-    y > last(height) as f64
+    false
 }
 
 // Rust's `x.clamp(0.0, most)`.
@@ -141,20 +140,20 @@ fn beyond(width: u32, height: u32, border: BorderMode, x: f64, y: f64) -> Spot
     }
 }
 
-// Where a sample falls.
+// Where a sample falls. Nearly all fall inside, so that is asked first; the order of the tests does not show.
 pub fn spot_at(width: u32, height: u32, border: BorderMode, x: f64, y: f64) -> Spot
     ensures { λ r. ⌜ r ≡ spotOf width height border x y ⌝ }
 {
+    if is_inside(width, height, x, y) {
+        return within(width, height, x, y);
+    }
     if !ieee::is_finite(x) {
         return Spot::Off;
     }
     if !ieee::is_finite(y) {
         return Spot::Off;
     }
-    if outside(width, height, x, y) {
-        return beyond(width, height, border, x, y);
-    }
-    within(width, height, x, y)
+    beyond(width, height, border, x, y)
 }
 
 // Where a sample seen through a camera falls. The camera's tests and steps stand here one by one: a call that takes
@@ -203,43 +202,45 @@ fn byte_at(bytes: &[u8], i: usize) -> u8
     if i < bytes.len() { bytes[i] } else { 0 }
 }
 
-// A mark past the sheet's end is none.
-fn mark_at(sheet: &mut [u8], i: usize)
-    ensures { λ _. ⌜ now (sheet .exit) ≡ set (now (sheet .entry)) i 1 ⌝ }
+// A pixel's mark on a sheet of rows of `width` bytes. Past the sheet's end there is none.
+fn mark_pixel(sheet: &mut [u8], width: u32, x: u32, y: u32)
+    ensures { λ _. ⌜ now (sheet .exit) ≡ set (now (sheet .entry)) (y * width + x) 1 ⌝ }
 {
+    let i = place(width, x, y);
     if i < sheet.len() {
         sheet[i] = 1;
     }
 }
 
-// A pixel of the photograph, which is marked.
-fn read_pixel(bytes: &[u8], stride: u32, width: u32, sheet: &mut [u8], x: u32, y: u32) -> f64
-    ensures { λ r. ⌜ r ≡ float (photo (now (bytes .entry)) stride x y) ⌝ }
-    ensures { λ _. ⌜ now (sheet .exit) ≡ set (now (sheet .entry)) (y * width + x) 1 ⌝ }
+// The marks of the four pixels that a sample falls among. Most runs want no sheet and lend an empty
+// one, so that is asked first.
+fn mark_cell(sheet: &mut [u8], width: u32, x0: u32, y0: u32, x1: u32, y1: u32)
+    ensures { λ _. ⌜ now (sheet .exit) ≡ mark width (cell x0 y0 x1 y1) (now (sheet .entry)) ⌝ }
 {
-    mark_at(sheet, place(width, x, y));
+    if sheet.len() == 0 {
+        return;
+    }
+    mark_pixel(sheet, width, x0, y0);
+    mark_pixel(sheet, width, x1, y0);
+    mark_pixel(sheet, width, x0, y1);
+    mark_pixel(sheet, width, x1, y1);
+}
+
+// A pixel of the photograph.
+fn pixel_at(bytes: &[u8], stride: u32, x: u32, y: u32) -> f64
+    ensures { λ r. ⌜ r ≡ float (photo (now (bytes .entry)) stride x y) ⌝ }
+{
     byte_at(bytes, place(stride, x, y)) as f64
 }
 
-// What four pixels show, each marked.
-fn blended(
-    bytes: &[u8],
-    stride: u32,
-    width: u32,
-    sheet: &mut [u8],
-    x0: u32,
-    y0: u32,
-    x1: u32,
-    y1: u32,
-    fx: f64,
-    fy: f64,
-) -> f64
-    ensures { λ r. ⌜ Shows (photo (now (bytes .entry)) stride) width (Among x0 y0 x1 y1 fx fy) (Luma r) (now (sheet .entry)) (now (sheet .exit)) ⌝ }
+// What four pixels show.
+fn blended(bytes: &[u8], stride: u32, x0: u32, y0: u32, x1: u32, y1: u32, fx: f64, fy: f64) -> f64
+    ensures { λ r. ⌜ r ≡ blend (photo (now (bytes .entry)) stride x0 y0) (photo (now (bytes .entry)) stride x1 y0) (photo (now (bytes .entry)) stride x0 y1) (photo (now (bytes .entry)) stride x1 y1) fx fy ⌝ }
 {
-    let v00 = read_pixel(bytes, stride, width, sheet, x0, y0);
-    let v10 = read_pixel(bytes, stride, width, sheet, x1, y0);
-    let v01 = read_pixel(bytes, stride, width, sheet, x0, y1);
-    let v11 = read_pixel(bytes, stride, width, sheet, x1, y1);
+    let v00 = pixel_at(bytes, stride, x0, y0);
+    let v10 = pixel_at(bytes, stride, x1, y0);
+    let v01 = pixel_at(bytes, stride, x0, y1);
+    let v11 = pixel_at(bytes, stride, x1, y1);
     let top = v00 + (v10 - v00) * fx;
     let bottom = v01 + (v11 - v01) * fx;
     top + (bottom - top) * fy
@@ -260,7 +261,10 @@ pub fn show(bytes: &[u8], stride: u32, width: u32, sheet: &mut [u8], spot: Spot)
             y1,
             fx,
             fy,
-        } => Sampled::Luma(blended(bytes, stride, width, sheet, x0, y0, x1, y1, fx, fy)),
+        } => {
+            mark_cell(sheet, width, x0, y0, x1, y1);
+            Sampled::Luma(blended(bytes, stride, x0, y0, x1, y1, fx, fy))
+        }
     }
 }
 

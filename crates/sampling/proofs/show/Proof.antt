@@ -1,5 +1,5 @@
 -- `show` meets its contract: a case for each spot. Assumes nothing.
-use Rattle.sampling.proofs.Shades.{shows-off, shows-edging}
+use Rattle.sampling.proofs.Shades.{shows-off, shows-edging, shows-among}
 use borrow.Author.Needs.{needs}
 use Rattle.sampling.proofs.show.Statement.{statement}
 use Rattle.sampling.proofs.show.Tie as tie
@@ -16,6 +16,9 @@ int-to-float-t14 c = search needs
 enum-known-spot-2 : tie.Need-enum-known-spot-2
 enum-known-spot-2 c = search needs
 
+mark-cell-requires : tie.Need-mark-cell-requires
+mark-cell-requires c κs = search needs
+
 blended-requires : tie.Need-blended-requires
 blended-requires c κs = search needs
 
@@ -29,7 +32,7 @@ same-length : tie.Need-same-length
 same-length c = search needs
 
 returns-3 : tie.Need-returns-3
-returns-3 c = rw (c .before .before .before .before .before .spot2 .given .1) (c .before .before .blended .ensures)
+returns-3 c = shows-among _ _ _ _ _ _ _ _ _ (c .before .before .before .before .before .before .spot2 .given .1) (c .before .before .before .mark-cell .ensures) (c .blended .ensures)
 
 pub show-spec : {M : Type 1} → statement M
 show-spec =
@@ -39,6 +42,7 @@ show-spec =
     enum-known-spot
     int-to-float-t14
     enum-known-spot-2
+    mark-cell-requires
     blended-requires
     returns
     returns-2
