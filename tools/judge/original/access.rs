@@ -131,6 +131,13 @@ impl Input<'_> {
         self.call().is_some()
     }
 
+    /// The same on a cleared sheet, with the copy made after it.
+    #[cfg(marked)]
+    #[inline(never)]
+    pub fn timed_marking(&self, sheet: &mut [u8], copy: &mut [u8]) -> bool {
+        image::mark::marked(&self.view, sheet, copy, || self.call().is_some())
+    }
+
     /// How many samples a run tries, rejected ones included.
     pub fn samples(&self) -> u64 {
         let source = self.source_view();

@@ -23,7 +23,7 @@ fn agree(rust: &Outcome, port: &Outcome) -> bool {
 /// The marking call: its answer, sheet and copy, and the run over the copy.
 fn marking(job: &Job, seen: &Seen) -> Option<String> {
     const OLD: u8 = 0xa5;
-    let area = if seen.outcome.number == 1 { 64 } else { job.width as usize * job.height as usize };
+    let area = if seen.outcome.number == 1 { 64 } else { job.area() };
     let (mut sheet, mut copy) = (vec![OLD; area + 3], vec![OLD; area + 5]);
     let got = port::refine_marking(job, &mut sheet, &mut copy)?;
     if !agree(&seen.outcome, &got) {

@@ -801,8 +801,13 @@ fn refused(r: &mut Rng) -> Job {
 
 // ---- the benchmark
 
-/// A photograph that a label fills: clean enough to be answered, rough enough to be ordinary.
+/// A photograph that a label fills.
 pub fn photograph(seed: u64, width: usize, height: usize, dim: usize, lens: bool) -> Job {
+    photograph_of(seed, width, height, dim, lens, height as f64 * 0.38)
+}
+
+/// A photograph with a label of so many pixels from its middle to a side: clean enough to be answered, rough enough to be ordinary.
+pub fn photograph_of(seed: u64, width: usize, height: usize, dim: usize, lens: bool, half: f64) -> Job {
     let mut r = Rng::new(seed ^ 0xbe_4c4);
     let modules = modules_like_a_code(&mut r, dim);
     let (w, h) = (width as f64, height as f64);
@@ -810,7 +815,6 @@ pub fn photograph(seed: u64, width: usize, height: usize, dim: usize, lens: bool
         let c = [w * 0.9, w * 0.9, w / 2.0, h / 2.0];
         Camera { source: c, rectified: c, lens: Some([-0.08, 0.02, 0.001, -0.0008, 0.003]) }
     });
-    let half = h * 0.38;
     let quad = posed(&mut r, [w / 2.0, h / 2.0], half, 0.35);
     let mut canvas = Canvas::new(width, height, 215.0);
     let label = Label { dim, modules: &modules, corners: quad, camera, ink: 35.0, paper: 215.0, quiet: 4.0 };
@@ -832,5 +836,23 @@ pub fn photograph(seed: u64, width: usize, height: usize, dim: usize, lens: bool
         corners,
         inverted: false,
         camera,
+    }
+}
+
+/// The same in the middle of a larger picture. For a job without a camera, whose centre would move too, and with scales of 1.
+pub fn framed(job: &Job, width: usize, height: usize) -> Job {
+    let (w, h) = (job.width as usize, job.height as usize);
+    let (left, top) = ((width - w) / 2, (height - h) / 2);
+    let mut bytes = vec![215; width * height];
+    for y in 0..h {
+        bytes[(top + y) * width + left..][..w].copy_from_slice(&job.bytes[y * job.stride as usize..][..w]);
+    }
+    Job {
+        width: width as u32,
+        height: height as u32,
+        stride: width as u32,
+        bytes,
+        corners: job.corners.map(|[x, y]| [x + left as f64, y + top as f64]),
+        ..job.clone()
     }
 }

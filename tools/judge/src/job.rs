@@ -65,6 +65,11 @@ pub struct Job {
 }
 
 impl Job {
+    /// How many bytes a sheet or a copy has.
+    pub fn area(&self) -> usize {
+        self.width as usize * self.height as usize
+    }
+
     pub fn source_corners(&self) -> [[f64; 2]; 4] {
         self.corners.map(|[x, y]| [x / self.sx, y / self.sy])
     }

@@ -1,7 +1,8 @@
 //! The leaf calls, on random and special floats.
 use crate::families;
+use crate::input::watched::calibration;
 use crate::job::Camera;
-use crate::oracle::{calibration, same_floats};
+use crate::oracle::same_floats;
 use crate::port::{self, Aim, Border, Photograph};
 use crate::rng::{neighbour, Rng};
 use crate::rules;

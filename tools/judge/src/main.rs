@@ -4,6 +4,8 @@ mod cards;
 mod compare;
 mod draw;
 mod families;
+mod growth;
+mod input;
 mod job;
 mod leaves;
 mod oracle;
@@ -11,11 +13,13 @@ mod port;
 mod rng;
 mod rules;
 mod steer;
+mod turns;
 
 const HELP: &str = "judge jobs [--seeds N] [--from SEED] [--family NAME] [--ways]
 judge job SEED [--family NAME]
 judge leaves [--calls N] [--from SEED]
-judge bench [--photographs N] [--repeats N] [--width N] [--dim N] [--lens yes|no] [--side rust|port]
+judge bench [--photographs N] [--repeats N] [--width N] [--dim N] [--lens yes|no] [--marking yes|no] [--side rust|port]
+judge growth [--photographs N] [--repeats N]
 judge cards LIST ANSWERS [--seeds N] [--of-each N] [--marks]
 judge card FILE";
 
@@ -41,6 +45,10 @@ fn main() {
         }),
         Some("job") => compare::explain(words.get(1).and_then(|w| w.parse().ok()).expect("judge job SEED"), family),
         Some("leaves") => leaves::run(number(&words, "--from", 0), number(&words, "--calls", 1_000_000)),
+        Some("bench" | "growth") if !cfg!(port) => {
+            println!("no port to time");
+            false
+        }
         Some("bench") => bench::run(&bench::Options {
             photographs: number(&words, "--photographs", 4),
             repeats: number(&words, "--repeats", 25),
@@ -48,7 +56,9 @@ fn main() {
             width: value(&words, "--width"),
             dim: value(&words, "--dim"),
             lens: value(&words, "--lens"),
+            marking: value(&words, "--marking"),
         }),
+        Some("growth") => growth::run(number(&words, "--photographs", 4), number(&words, "--repeats", 25)),
         Some("cards") if words.len() > 2 => cards::run(&cards::Options {
             seeds: number(&words, "--seeds", 4000),
             of_each: number(&words, "--of-each", 2) as usize,

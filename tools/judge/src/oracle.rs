@@ -1,25 +1,12 @@
 //! What a job must come to: by document 01's entry checks, and behind them by the Rust.
-use crate::job::{Camera, Job};
+use crate::input::watched::Prepared;
+use crate::job::Job;
 use crate::rules;
 use std::panic::{catch_unwind, AssertUnwindSafe};
-use watched::refine::access::geometry::{CameraCalibration, CameraIntrinsics, LensDistortion};
-use watched::refine::access::image::{watch, LumaView, Size};
+use watched::refine::access::image::watch;
 use watched::refine::access::{self, Input, RoundEnd};
 
 pub use watched::refine::access::Outcome;
-
-pub fn intrinsics(n: [f64; 4]) -> CameraIntrinsics {
-    CameraIntrinsics { fx: n[0], fy: n[1], cx: n[2], cy: n[3] }
-}
-
-pub fn calibration(c: &Camera, width: u32, height: u32) -> Option<CameraCalibration> {
-    let lens = match c.lens {
-        None => LensDistortion::None,
-        Some(k) => LensDistortion::BrownConrady(k),
-    };
-    let size = Size::new(width as usize, height as usize);
-    CameraCalibration::new(size, intrinsics(c.source), lens).ok()?.with_rectified_intrinsics(intrinsics(c.rectified)).ok()
-}
 
 /// What was seen of the Rust on a job.
 pub struct Seen {
@@ -33,22 +20,7 @@ pub struct Seen {
 
 /// Run something on the Rust's own input, of a job that passes the entry checks.
 pub fn with_input<T>(job: &Job, run: impl FnOnce(Input) -> T) -> T {
-    let view = LumaView::new(&job.bytes, job.width as usize, job.height as usize, job.stride as usize)
-        .expect("the entry checks say that the Rust takes this photograph");
-    let camera = job
-        .camera
-        .as_ref()
-        .map(|c| calibration(c, job.width, job.height).expect("the entry checks say that the Rust takes this camera"));
-    let bits = access::grid(job.dim as usize, &job.modules);
-    run(Input {
-        view,
-        camera: camera.as_ref(),
-        sx: job.sx,
-        sy: job.sy,
-        corners: job.corners,
-        bits: &bits,
-        inverted: job.inverted,
-    })
+    run(Prepared::new(job).input())
 }
 
 thread_local! {

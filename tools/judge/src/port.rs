@@ -24,6 +24,11 @@ fn answered(job: &Job) -> trufolmesca::Answer {
     trufolmesca::refine_corners(photograph(job), grid(job), [job.sx, job.sy], &job.corners, job.inverted, camera.as_ref())
 }
 
+fn answered_marking(job: &Job, sheet: &mut [u8], copy: &mut [u8]) -> trufolmesca::Answer {
+    let (p, scale, camera) = (photograph(job), [job.sx, job.sy], job.camera.as_ref().map(camera));
+    trufolmesca::refine_corners_marking(p, grid(job), scale, &job.corners, job.inverted, camera.as_ref(), sheet, copy)
+}
+
 fn outcome(a: &trufolmesca::Answer) -> Outcome {
     Outcome {
         number: a.number,
@@ -41,18 +46,19 @@ pub fn refine(job: &Job) -> Option<Outcome> {
 
 /// The marking call, which is lent sheet and copy.
 pub fn refine_marking(job: &Job, sheet: &mut [u8], copy: &mut [u8]) -> Option<Outcome> {
-    let camera = job.camera.as_ref().map(camera);
-    let marked = || {
-        let (p, scale) = (photograph(job), [job.sx, job.sy]);
-        trufolmesca::refine_corners_marking(p, grid(job), scale, &job.corners, job.inverted, camera.as_ref(), sheet, copy)
-    };
-    cfg!(port).then(marked).map(|a| outcome(&a))
+    cfg!(port).then(|| outcome(&answered_marking(job, sheet, copy)))
 }
 
 /// The bare call, for timing.
 #[inline(never)]
 pub fn timed(job: &Job) -> Option<u32> {
     cfg!(port).then(|| std::hint::black_box(answered(job)).number)
+}
+
+/// The bare marking call, for timing.
+#[inline(never)]
+pub fn timed_marking(job: &Job, sheet: &mut [u8], copy: &mut [u8]) -> Option<u32> {
+    cfg!(port).then(|| std::hint::black_box(answered_marking(job, sheet, copy)).number)
 }
 
 /// A leaf call's number and values.
