@@ -13,6 +13,7 @@ use Rattle.ieee.proofs.Order.{not-more, else-more, amid-finite}
 use Rattle.ieee.proofs.WholeGuess.{float-finite}
 use Rattle.pixel.specs.declared.SourcePixel.{SourcePixel}
 use Rattle.camera.specs.declared.CameraCalibration.{CameraCalibration}
+use Rattle.camera.specs.declared.Placed.{Placed}
 use Rattle.camera.specs.declared.Placed.the-variants.{On, Nowhere}
 use Rattle.camera.specs.Camera.{isIdentity, projected, ifFinite, rectifiedToSource}
 use Rattle.sampling.specs.declared.BorderMode.{BorderMode}
@@ -21,8 +22,7 @@ use Rattle.sampling.specs.declared.Spot.{Spot}
 use Rattle.sampling.specs.declared.Spot.the-variants.{Off}
 use Rattle.sampling.specs.declared.View.{View}
 use Rattle.sampling.specs.declared.View.the-variants.{Plain, Calibrated}
-use Rattle.sampling.specs.declared.Scene.{Scene}
-use Rattle.sampling.specs.Sampling.{clamped, outside, within, beyond, spot, placedSpot, viewedSpot, sceneSpot}
+use Rattle.sampling.specs.Sampling.{clamped, outside, within, beyond, spot, placedSpot, viewedSpot}
 
 -- ---- beyond the edges
 
@@ -110,10 +110,21 @@ module _ (w h : ℕ) (b : BorderMode) (x y : Float) where
       let u = both (isFinite x) (isFinite y) (t .0) in
       rw (u .0, u .1, not-true (outside w h x y) (t .1), spot)
 
--- ---- the spot through a camera
+-- with the border rejected, what is not inside has none
+module _ (w h : ℕ) (x y : Float) where
+  pub rejected : (isFinite x && isFinite y && not (outside w h x y)) ≡ false → Off ≡ spot w h Reject x y
+  unfolding beyond
+  rejected o = go (isFinite x) refl (isFinite y) refl
+    where
+      go : (a : Bool) → isFinite x ≡ a → (b : Bool) → isFinite y ≡ b → Off ≡ spot w h Reject x y
+      go true ea true eb = off-outside w h Reject x y ea eb o
+      go true ea false eb = off-y w h Reject x y ea eb
+      go false ea b eb = off-x w h Reject x y ea
+
+-- ---- the place through a camera
 
 -- a place that is not finite has no spot
-if-finite-spot : (w h : ℕ) (q : SourcePixel) → spot w h Reject (q .0) (q .1) ≡ placedSpot w h (ifFinite q)
+if-finite-spot : (w h : ℕ) (q : SourcePixel) → placedSpot w h (On q) ≡ placedSpot w h (ifFinite q)
 unfolding placedSpot ifFinite
 if-finite-spot w h q = go (isFinite (q .0)) refl (isFinite (q .1)) refl
   where
@@ -122,31 +133,39 @@ if-finite-spot w h q = go (isFinite (q .0)) refl (isFinite (q .1)) refl
     go true ea false eb = sym (off-y w h Reject (q .0) (q .1) ea eb)
     go false ea b eb = sym (off-x w h Reject (q .0) (q .1) ea)
 
-module _ (w h : ℕ) (c : CameraCalibration) (p : SourcePixel) where
-  pub lost-x : isFinite (p .0) ≡ false → Off ≡ placedSpot w h (rectifiedToSource c p)
-  unfolding placedSpot rectifiedToSource
-  lost-x e = rw (e, rectifiedToSource)
+module _ (c : CameraCalibration) (p : SourcePixel) where
+  pub lost-x : isFinite (p .0) ≡ false → (w h : ℕ) → placedSpot w h Nowhere ≡ placedSpot w h (rectifiedToSource c p)
+  unfolding rectifiedToSource
+  lost-x e w h = rw (e, rectifiedToSource)
 
-  pub lost-y : isFinite (p .0) ≡ true → isFinite (p .1) ≡ false → Off ≡ placedSpot w h (rectifiedToSource c p)
-  unfolding placedSpot rectifiedToSource
-  lost-y e f = rw (e, f, rectifiedToSource)
+  pub lost-y : isFinite (p .0) ≡ true → isFinite (p .1) ≡ false → (w h : ℕ) → placedSpot w h Nowhere ≡ placedSpot w h (rectifiedToSource c p)
+  unfolding rectifiedToSource
+  lost-y e f w h = rw (e, f, rectifiedToSource)
 
-  pub same-place : isFinite (p .0) ≡ true → isFinite (p .1) ≡ true → isIdentity c ≡ true → spot w h Reject (p .0) (p .1) ≡ placedSpot w h (rectifiedToSource c p)
-  unfolding placedSpot rectifiedToSource
-  same-place e f i = rw (e, f, i, rectifiedToSource)
+  pub same-place : isFinite (p .0) ≡ true → isFinite (p .1) ≡ true → isIdentity c ≡ true → (w h : ℕ) → placedSpot w h (On p) ≡ placedSpot w h (rectifiedToSource c p)
+  unfolding rectifiedToSource
+  same-place e f i w h = rw (e, f, i, rectifiedToSource)
 
   pub carried-place : {q : SourcePixel} → isFinite (p .0) ≡ true → isFinite (p .1) ≡ true → isIdentity c ≡ false → q ≡ projected c p
-      → spot w h Reject (q .0) (q .1) ≡ placedSpot w h (rectifiedToSource c p)
+      → (w h : ℕ) → placedSpot w h (On q) ≡ placedSpot w h (rectifiedToSource c p)
   unfolding rectifiedToSource
-  carried-place {q} e f i at = rw (e, f, i, rectifiedToSource, sym at) (if-finite-spot w h q)
+  carried-place {q} e f i at w h = rw (e, f, i, rectifiedToSource, sym at) (if-finite-spot w h q)
 
 -- ---- the spot in a scene
 
-module _ (s : Scene) (p : SourcePixel) where
-  pub plain-spot : s .view ≡ Plain → {r : Spot} → r ≡ spot (s .width) (s .height) Reject (p .0) (p .1) → r ≡ sceneSpot s p
-  unfolding viewedSpot
-  plain-spot e hr = hr ∙ sym (ap (λ (v : View). viewedSpot (s .width) (s .height) v p) e)
+module _ (v : View) (p : SourcePixel) where
+  pub plain-place : v ≡ Plain → (w h : ℕ) → placedSpot w h (On p) ≡ viewedSpot w h v p
+  unfolding placedSpot viewedSpot
+  plain-place e w h = rw e
 
-  pub camera-spot : {c : CameraCalibration} → s .view ≡ Calibrated c → {r : Spot} → r ≡ placedSpot (s .width) (s .height) (rectifiedToSource c p) → r ≡ sceneSpot s p
+  pub camera-place : {c : CameraCalibration} → v ≡ Calibrated c → (r : Placed) → ((w h : ℕ) → placedSpot w h r ≡ placedSpot w h (rectifiedToSource c p)) → (w h : ℕ) → placedSpot w h r ≡ viewedSpot w h v p
   unfolding viewedSpot
-  camera-spot e hr = hr ∙ sym (ap (λ (v : View). viewedSpot (s .width) (s .height) v p) e)
+  camera-place e r hr w h = rw e (hr w h)
+
+  pub placed-on : (w h : ℕ) {r : Placed} → placedSpot w h r ≡ viewedSpot w h v p → {q : SourcePixel} → r ≡ On q → {s : Spot} → s ≡ spot w h Reject (q .0) (q .1) → s ≡ viewedSpot w h v p
+  unfolding placedSpot
+  placed-on w h hr e hs = hs ∙ ap (λ (a : Placed). placedSpot w h a) (sym e) ∙ hr
+
+  pub placed-nowhere : (w h : ℕ) {r : Placed} → placedSpot w h r ≡ viewedSpot w h v p → r ≡ Nowhere → Off ≡ viewedSpot w h v p
+  unfolding placedSpot
+  placed-nowhere w h hr e = ap (λ (a : Placed). placedSpot w h a) (sym e) ∙ hr

@@ -1,16 +1,18 @@
 // sampling.rs: where a sample falls, and what it shows there. The pixels that it reads are marked on a
 // sheet; where none is wanted, an empty one is lent.
 ghost use mathlib.Core.Path.{_≡_};
-ghost use Prim.Native.Nat.{_+_, _-_, _*_, min};
+ghost use Prim.Native.Nat.{ℕ, _+_, _-_, _*_, min};
 ghost use lib.ListN.{set, getD};
 ghost use mathlib.Core.Bool.{_&&_, not};
 ghost use Rattle.ieee.specs.Floats.{float};
 ghost use Rattle.ieee.specs.Parts.{isFinite};
 ghost use Rattle.camera.specs.Camera.{rectifiedToSource};
 ghost use Rattle.sampling.specs.Photographs.{photo, sized as sizedBy, goodSize, goodPhotograph, photographNumber};
-ghost use Rattle.sampling.specs.Sampling.{clamped, outside, within as amid, beyond as borderSpot, spot as spotOf, cell, blend, placedSpot, sceneSpot, goodView, sampleBilinear};
+ghost use Rattle.sampling.specs.Sampling.{clamped, outside, within as amid, beyond as borderSpot, spot as spotOf, cell, blend, placedSpot, viewedSpot, sceneSpot, goodView, sampleBilinear};
 ghost use Rattle.sampling.specs.Marks.{mark, Shows};
+ghost use Rattle.sampling.specs.declared.BorderMode.the-variants.{Reject};
 use camera::CameraCalibration;
+use camera::Placed;
 use pixel::SourcePixel;
 
 // A width or a height is at most this.
@@ -156,33 +158,53 @@ pub fn spot_at(width: u32, height: u32, border: BorderMode, x: f64, y: f64) -> S
     beyond(width, height, border, x, y)
 }
 
-// Where a sample seen through a camera falls. The camera's tests and steps stand here one by one: a call that takes
-// the whole camera at every sample made a refinement a quarter slower.
-fn spot_through(width: u32, height: u32, camera: CameraCalibration, p: SourcePixel) -> Spot
-    ensures { λ r. ⌜ r ≡ placedSpot width height (rectifiedToSource camera p) ⌝ }
+// Where a sample falls with the border rejected.
+fn rejecting_spot(width: u32, height: u32, x: f64, y: f64) -> Spot
+    ensures { λ r. ⌜ r ≡ spotOf width height Reject x y ⌝ }
+{
+    if is_inside(width, height, x, y) {
+        return within(width, height, x, y);
+    }
+    Spot::Off
+}
+
+// A place seen through a camera. The camera's tests and steps stand here one by one: a call that takes the whole
+// camera at every sample made a refinement a quarter slower. Whether the result is finite its spot tells.
+fn through(camera: CameraCalibration, p: SourcePixel) -> Placed
+    ensures { λ r. ⌜ ((w h : ℕ) → placedSpot w h r ≡ placedSpot w h (rectifiedToSource camera p)) ⌝ }
 {
     if !ieee::is_finite(p.0) {
-        return Spot::Off;
+        return Placed::Nowhere;
     }
     if !ieee::is_finite(p.1) {
-        return Spot::Off;
+        return Placed::Nowhere;
     }
     if camera.is_identity() {
-        return spot_at(width, height, BorderMode::Reject, p.0, p.1);
+        return Placed::On(p);
     }
-    let q = camera.project(p);
-    spot_at(width, height, BorderMode::Reject, q.0, q.1)
+    Placed::On(camera.project(p))
+}
+
+// A place in the photograph: through the camera, where there is one.
+fn viewed(view: View, p: SourcePixel) -> Placed
+    ensures { λ r. ⌜ ((w h : ℕ) → placedSpot w h r ≡ viewedSpot w h view p) ⌝ }
+{
+    match view {
+        View::Plain => Placed::On(p),
+        View::Calibrated(camera) => through(camera, p),
+    }
 }
 
 // Where a sample of the refinement falls: through the camera, where there is one, with the border
-// rejected.
+// rejected. One call finds the spot for every view, so that the compiler puts it in.
 pub fn source_spot(scene: Scene, p: SourcePixel) -> Spot
     ensures { λ r. ⌜ r ≡ sceneSpot scene p ⌝ }
 {
     let view = scene.view;
-    match view {
-        View::Plain => spot_at(scene.width, scene.height, BorderMode::Reject, p.0, p.1),
-        View::Calibrated(camera) => spot_through(scene.width, scene.height, camera, p),
+    let placed = viewed(view, p);
+    match placed {
+        Placed::On(q) => rejecting_spot(scene.width, scene.height, q.0, q.1),
+        Placed::Nowhere => Spot::Off,
     }
 }
 

@@ -1,26 +1,34 @@
--- `source_spot` meets its contract: a case for each view. Assumes nothing.
-use Rattle.sampling.proofs.Spots.{plain-spot, camera-spot}
+-- `source_spot` meets its contract: the spot of the place that `viewed` ensures. Assumes nothing.
+use Rattle.sampling.proofs.Spots.{placed-on, placed-nowhere}
 use borrow.Author.Needs.{needs}
 use Rattle.sampling.proofs.source_spot.Statement.{statement}
 use Rattle.sampling.proofs.source_spot.Tie as tie
 
+viewed-requires : tie.Need-viewed-requires
+viewed-requires c κs = search needs
+
+enum-known-placed : tie.Need-enum-known-placed
+enum-known-placed c = search needs
+
+rejecting-spot-requires : tie.Need-rejecting-spot-requires
+rejecting-spot-requires c κs = search needs
+
 enum-told : tie.Need-enum-told
 enum-told c = search needs
 
-spot-at-requires : tie.Need-spot-at-requires
-spot-at-requires c κs = search needs
-
-enum-known-view : tie.Need-enum-known-view
-enum-known-view c = search needs
-
-spot-through-requires : tie.Need-spot-through-requires
-spot-through-requires c κs = search needs
-
 returns : tie.Need-returns
-returns c = plain-spot _ _ (c .before .enum-told .given .1) (c .spot-at .ensures)
+returns c = placed-on _ _ _ _ (c .before .before .before .before .viewed .ensures _ _) (c .before .before .placed .given .1) (c .rejecting-spot .ensures)
 
 returns-2 : tie.Need-returns-2
-returns-2 c = camera-spot _ _ (c .before .before .view .given .1) (c .spot-through .ensures)
+returns-2 c = placed-nowhere _ _ _ _ (c .before .before .viewed .ensures _ _) (c .enum-told .given .1)
 
 pub source-spot-spec : {M : Type 1} → statement M
-source-spot-spec = tie.close (tie.spec enum-told spot-at-requires enum-known-view spot-through-requires returns returns-2)
+source-spot-spec =
+    tie.close
+    (tie.spec
+    viewed-requires
+    enum-known-placed
+    rejecting-spot-requires
+    enum-told
+    returns
+    returns-2)
