@@ -10,7 +10,7 @@ refine-corners-with-requires : tie.Need-refine-corners-with-requires
 refine-corners-with-requires c κs = search needs
 
 returns : tie.Need-returns
-returns c = cc
+returns c = rw (← c .before .defaults .ensures) (c .refine-corners-with .ensures)
 
 pub refine-corners-mapped-spec : {M : Type 1} → statement M
 refine-corners-mapped-spec =

@@ -12,7 +12,7 @@ no-stat-requires c κs = search needs
 
 returns : tie.Need-returns
 unfolding noEdges
-returns c = cc
+returns c = rw (c .before .zero-line .ensures, c .no-stat .ensures)
 
 pub none-spec : {M : Type 1} → statement M
 none-spec = tie.close (tie.spec zero-line-requires no-stat-requires returns)

@@ -31,7 +31,13 @@ to-source-requires-4 : tie.Need-to-source-requires-4
 to-source-requires-4 c κs = search needs
 
 returns : tie.Need-returns
-returns c = let a = c .before .before .before .before .before .before .before .before .args in cc (four-of (toSource (a .sx) (a .sy)) (record { 0 = nan; 1 = nan }) (a .t1) (search needs))
+returns c =
+    let third = c .before .before in
+    let second = third .before .before in
+    let first = second .before .before in
+    let a = first .before .before .args in
+    rw (first .to-source .ensures, second .to-source2 .ensures, third .to-source3 .ensures, c .to-source4 .ensures)
+    (four-of (toSource (a .sx) (a .sy)) (record { 0 = nan; 1 = nan }) (a .t1) (search needs))
 
 pub source-corners-spec : {M : Type 1} → statement M
 source-corners-spec =

@@ -54,7 +54,26 @@ is-at-requires-4 c κs = search needs
 
 returns : tie.Need-returns
 unfolding refinedCorners
-returns c = cc
+returns c =
+    let place4 = c .before .before .before .before in
+    let place3 = place4 .before .before in
+    let place2 = place3 .before .before in
+    let place1 = place2 .before .before in
+    let crossed = place1 .before .before .before in
+    rw (
+      place1 .or-else .ensures,
+      place2 .or-else2 .ensures,
+      place3 .or-else3 .ensures,
+      place4 .or-else4 .ensures,
+      c .before .before .before .is-at .ensures,
+      c .before .before .is-at2 .ensures,
+      c .before .is-at3 .ensures,
+      c .is-at4 .ensures,
+      crossed .before .before .before .crossed-at .ensures,
+      crossed .before .before .crossed-at2 .ensures,
+      crossed .before .crossed-at3 .ensures,
+      crossed .crossed-at4 .ensures,
+    )
 
 pub refined-corners-spec : {M : Type 1} → statement M
 refined-corners-spec =

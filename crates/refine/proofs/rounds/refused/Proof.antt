@@ -9,7 +9,7 @@ no-stat-requires c κs = search needs
 
 returns : tie.Need-returns
 unfolding refused
-returns c = cc
+returns c = rw (c .no-stat .ensures)
 
 pub refused-spec : {M : Type 1} → statement M
 refused-spec = tie.close (tie.spec no-stat-requires returns)

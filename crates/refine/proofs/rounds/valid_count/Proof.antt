@@ -39,7 +39,7 @@ add-result-3 c = search needs
 
 returns : tie.Need-returns
 unfolding validCount
-returns c = cc
+returns c = rw (c .before .before .before .bit .ensures .0, c .before .before .bit2 .ensures .0, c .before .bit3 .ensures .0, c .bit4 .ensures .0)
 
 pub valid-count-spec : {M : Type 1} → statement M
 valid-count-spec =
