@@ -42,9 +42,9 @@ use Rattle.grid.specs.declared.Probe.{Probe}
 use Rattle.grid.specs.Grids.{Grid}
 use Rattle.grid.specs.Probes.{probesOf, thinned}
 use Rattle.edge.specs.Edge.{probed, plus, points, fitted, edgeLength, edge}
-use Rattle.refine.specs.declared.Answer.{Answer}
-use Rattle.refine.specs.declared.Edges.{Edges}
-use Rattle.refine.specs.Rounds.{refused, answered, noEdges, joined, onward, edgesFrom, lineIn, statIn, validCount, crossedAt, orElse, refinedCorners, roundEnd, mappedRound, round, isWeak, further, rounds}
+use Rattle.rounds.specs.declared.Answer.{Answer}
+use Rattle.rounds.specs.declared.Edges.{Edges}
+use Rattle.rounds.specs.Rounds.{refused, answered, noEdges, joined, onward, edgesFrom, lineIn, statIn, validCount, crossedAt, orElse, refinedCorners, roundEnd, mappedRound, round, isWeak, further, rounds}
 use Rattle.refine.specs.Refine.{Request, Photograph, entry, sceneOf, shown, sourceCorners, refinement, result, refine}
 use Rattle.number.specs.Numbers as number
 use Rattle.cards.specs.JobCard.{goodCard, cornersOf, requestFrom, requestOf, photographOf, jobAnswer}

@@ -5,8 +5,8 @@ use mathlib.Core.Path.{_≡_}
 use mathlib.Core.List.{List}
 use Rattle.number.specs.Numbers as number
 use Rattle.consts.specs.Consts.{defaults}
-use Rattle.refine.specs.declared.Answer.{Answer}
-use Rattle.refine.specs.Rounds.{refused}
+use Rattle.rounds.specs.declared.Answer.{Answer}
+use Rattle.rounds.specs.Rounds.{refused}
 use Rattle.refine.specs.Refine.{Request, Photograph}
 use Rattle.marking.specs.Marking.{Marks}
 use Rattle.cards.specs.JobCard.{goodCard, requestOf, photographOf}

@@ -5,8 +5,8 @@ use mathlib.Core.List.{List}
 use Rattle.number.specs.Numbers as number
 use Rattle.ieee.specs.Floats.{if_then_else_}
 use Rattle.consts.specs.Consts.{defaults}
-use Rattle.refine.specs.declared.Answer.{Answer}
-use Rattle.refine.specs.Rounds.{refused}
+use Rattle.rounds.specs.declared.Answer.{Answer}
+use Rattle.rounds.specs.Rounds.{refused}
 use Rattle.marking.specs.Marking.{refineMarking, sheetAfter, copyAfter}
 use Rattle.cards.specs.JobCard.{goodCard, requestOf, photographOf}
 

@@ -27,7 +27,7 @@ use camera::CameraCalibration;
 use camera::CameraIntrinsics;
 use camera::LensDistortion;
 use pixel::WorkingPixel;
-use refine::Answer;
+use rounds::Answer;
 use sampling::View;
 
 // What a card asks for, but for the photograph's bytes and the modules: these are lent as they lie in the card.
@@ -166,7 +166,7 @@ pub fn run_job(card: &[u8]) -> Answer
     ensures { λ r. ⌜ r ≡ jobAnswer (now (card .entry)) ⌝ }
 {
     if !is_good(card) {
-        return refine::refused(number::CARD);
+        return rounds::refused(number::CARD);
     }
     let asked = asked_of(card);
     let corners = asked.corners;

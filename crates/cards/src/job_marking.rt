@@ -4,7 +4,7 @@ use crate::job::asked_of;
 use crate::job::behind_first;
 use crate::job::part;
 use crate::job_card::is_good;
-use refine::Answer;
+use rounds::Answer;
 
 // Runs a job card, and writes what it read to sheet and copy, as `marking::refine_corners_mapped_marking` does. A malformed
 // card writes nothing.
@@ -12,7 +12,7 @@ pub fn run_job_marking(card: &[u8], sheet: &mut [u8], copy: &mut [u8]) -> Answer
     ensures { λ r. ⌜ JobMarks (now (card .entry)) r (now (sheet .entry)) (now (sheet .exit)) (now (copy .entry)) (now (copy .exit)) ⌝ }
 {
     if !is_good(card) {
-        return refine::refused(number::CARD);
+        return rounds::refused(number::CARD);
     }
     let asked = asked_of(card);
     let corners = asked.corners;

@@ -10,7 +10,7 @@ use crate::fields::put_float;
 use crate::fields::put_number;
 use fit::EdgeStat;
 use pixel::SourcePixel;
-use refine::RefinedCorners;
+use rounds::RefinedCorners;
 
 // Three headers, four corners, four counts of four bytes, four flags.
 pub const RESULT_SIZE: usize = 93;

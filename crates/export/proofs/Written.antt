@@ -4,7 +4,7 @@ use Prim.Native.Nat.{ℕ}
 use mathlib.Core.List.{List}
 use lib.Ieee.{Float}
 use Rattle.consts.specs.Consts.{defaults}
-use Rattle.refine.specs.declared.Answer.{Answer}
+use Rattle.rounds.specs.declared.Answer.{Answer}
 use Rattle.refine.specs.Refine.{Request, Photograph}
 use Rattle.marking.specs.Marking.{Marks}
 use Rattle.lent.specs.Answers.{Written}

@@ -7,7 +7,7 @@ use lib.Ieee.{Float}
 use Rattle.consts.specs.Consts.{defaults}
 use Rattle.grid.specs.Grids.{gridOf}
 use Rattle.sampling.specs.declared.View.{View}
-use Rattle.refine.specs.declared.Answer.{Answer}
+use Rattle.rounds.specs.declared.Answer.{Answer}
 use Rattle.refine.specs.Refine.{Request, Photograph, photograph, refine, request}
 use Rattle.marking.specs.Marking.{refineMarking, sheetAfter, copyAfter}
 use Rattle.lent.specs.Answers.{workingOf, Written}

@@ -10,9 +10,9 @@ use Rattle.pixel.specs.declared.WorkingPixel.{WorkingPixel}
 use Rattle.pixel.specs.declared.SourcePixel.{SourcePixel}
 use Rattle.fit.specs.declared.EdgeStat.{EdgeStat}
 use Rattle.look.specs.Sheets.{bit}
-use Rattle.refine.specs.declared.RefinedCorners.{RefinedCorners}
-use Rattle.refine.specs.declared.Answer.{Answer}
-use Rattle.refine.specs.Rounds.{noStat}
+use Rattle.rounds.specs.declared.RefinedCorners.{RefinedCorners}
+use Rattle.rounds.specs.declared.Answer.{Answer}
+use Rattle.rounds.specs.Rounds.{noStat}
 use Rattle.lent.specs.Lent.{floatAt, withPlaceAt}
 
 abbrev pub workingAt : List Float → ℕ → WorkingPixel

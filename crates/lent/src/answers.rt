@@ -6,7 +6,7 @@ ghost use Rattle.lent.specs.Answers.{workingOf, withCorners, withStat, w
 use fit::EdgeStat;
 use pixel::SourcePixel;
 use pixel::WorkingPixel;
-use refine::Answer;
+use rounds::Answer;
 
 pub fn working_of(s: &[f64]) -> [WorkingPixel; 4]
     ensures { λ r. ⌜ r ≡ workingOf (now (s .entry)) ⌝ }

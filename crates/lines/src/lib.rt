@@ -17,8 +17,8 @@ ghost use Rattle.lines.specs.Lines.{
 ghost use Rattle.lines.specs.Puts.{Puts};
 use fit::EdgeStat;
 use pixel::SourcePixel;
-use refine::Answer;
-use refine::RefinedCorners;
+use rounds::Answer;
+use rounds::RefinedCorners;
 
 // Copies a text to the bytes from `at` on. Like every function here that writes a piece, it answers where the next one goes.
 fn put_text(out: &mut [u8], at: usize, text: &[u8]) -> usize

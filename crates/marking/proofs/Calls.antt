@@ -16,8 +16,8 @@ use Rattle.look.specs.Look.{Look}
 use Rattle.look.specs.Run.{Runs}
 use Rattle.look.proofs.Inside.{reads-inside}
 use Rattle.look.proofs.Sheets.{marked-sheet, blanked-copy}
-use Rattle.refine.specs.declared.Answer.{Answer}
-use Rattle.refine.specs.Rounds.{refused, rounds}
+use Rattle.rounds.specs.declared.Answer.{Answer}
+use Rattle.rounds.specs.Rounds.{refused, rounds}
 use Rattle.refine.specs.Refine.{Request, Photograph, sourceCorners, sceneOf, shown, refinement, result, readsOf}
 use Rattle.marking.specs.Blanking.{blanked, RunsMarked}
 use Rattle.marking.specs.Marking.{markingEntry, markingNumber, refineMarking, sheetAfter, copyAfter, Marks}

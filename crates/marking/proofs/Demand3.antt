@@ -22,9 +22,9 @@ use Rattle.look.proofs.Inside.{reads-inside}
 use Rattle.look.proofs.Sheets.{is-true, each-read, sheet-at, copy-at, length-sheet, length-copy}
 use Rattle.look.proofs.Demand3 as look
 use Rattle.grid.proofs.SameGrid.{probes-same}
-use Rattle.refine.specs.declared.Answer.{Answer}
+use Rattle.rounds.specs.declared.Answer.{Answer}
+use Rattle.rounds.proofs.SameGrid.{rounds-same}
 use Rattle.refine.specs.Refine.{Request, Photograph, sourceCorners, sceneOf, shown, entry, refinement, result, readsOf}
-use Rattle.refine.proofs.SameGrid.{rounds-same}
 use Rattle.marking.specs.Marking.{area, markingEntry, markingNumber, refineMarking, sheetAfter, copyAfter}
 use Rattle.marking.specs.Demand3.{lent, Call, readsIn, at, SameMarks, AgreesWhereMarked, OverTheCopy, Demand3}
 use Rattle.marking.proofs.Entered.{photograph-passes, two-modules, other-photograph, good-rows, entered, enters-marking}

@@ -12,7 +12,7 @@ use Rattle.consts.specs.declared.Settings.{Settings}
 use Rattle.sampling.specs.Photographs.{Pixel}
 use Rattle.look.specs.Sheets.{isRead, bit}
 use Rattle.grid.specs.Grids.{gridOf}
-use Rattle.refine.specs.declared.Answer.{Answer}
+use Rattle.rounds.specs.declared.Answer.{Answer}
 use Rattle.refine.specs.Refine.{Request, request, Photograph, shown, readsOf}
 use Rattle.marking.specs.Marking.{area, markingEntry, Marks}
 

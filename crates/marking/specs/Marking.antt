@@ -9,8 +9,8 @@ use Rattle.number.specs.Numbers as number
 use Rattle.ieee.specs.Floats.{if_then_else_}
 use Rattle.consts.specs.declared.Settings.{Settings}
 use Rattle.look.specs.Sheets.{sheet, copy}
-use Rattle.refine.specs.declared.Answer.{Answer}
-use Rattle.refine.specs.Rounds.{refused}
+use Rattle.rounds.specs.declared.Answer.{Answer}
+use Rattle.rounds.specs.Rounds.{refused}
 use Rattle.refine.specs.Refine.{Request, Photograph, check, first, entryChecks, shown, result, readsOf}
 
 -- the bytes of the sheet, and of the copy, that a run writes

@@ -7,7 +7,7 @@ ghost use Rattle.consts.specs.Consts.{defaults};
 ghost use Rattle.sampling.specs.Photographs.{goodPhotograph, goodSize, photo};
 ghost use Rattle.sampling.specs.declared.View.the-variants.{Plain};
 ghost use Rattle.grid.specs.Grids.{gridOf};
-ghost use Rattle.refine.specs.Rounds.{rounds};
+ghost use Rattle.rounds.specs.Rounds.{rounds};
 ghost use Rattle.refine.specs.Refine.{photograph, request};
 ghost use Rattle.marking.specs.Blanking.{RunsMarked};
 ghost use Rattle.marking.specs.Marking.{Marks};
@@ -15,7 +15,7 @@ use consts::Settings;
 use look::Meter;
 use pixel::SourcePixel;
 use pixel::WorkingPixel;
-use refine::Answer;
+use rounds::Answer;
 use sampling::Scene;
 use sampling::View;
 
@@ -124,14 +124,14 @@ fn refine_corners_marking_with(
         view,
     );
     if entered.number != number::ANSWER {
-        return refine::refused(entered.number);
+        return rounds::refused(entered.number);
     }
     let area = sheets::area(width, height);
     if sheet.len() < area {
-        return refine::refused(number::SHEET);
+        return rounds::refused(number::SHEET);
     }
     if copy.len() < area {
-        return refine::refused(number::SHEET);
+        return rounds::refused(number::SHEET);
     }
     let scene = Scene {
         width,
@@ -171,7 +171,7 @@ fn marking_run(
 {
     sheets::clear(sheet, sheets::area(scene.width, scene.height));
     let meter = Meter { tried: 0 };
-    let run = refine::refine_rounds(
+    let run = rounds::refine_rounds(
         settings,
         bytes,
         stride,

@@ -17,7 +17,7 @@ use others::HEAD;
 use others::over_copy;
 use others::over_others;
 use others::shape_of;
-use refine::Answer;
+use rounds::Answer;
 
 // The dirt of runs that are asked what they left of it.
 const DIRT: u8 = 17;

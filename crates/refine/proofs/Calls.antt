@@ -7,8 +7,8 @@ use Rattle.consts.specs.declared.Settings.{Settings}
 use Rattle.pixel.specs.declared.SourcePixel.{SourcePixel}
 use Rattle.look.specs.declared.Meter.{Meter}
 use Rattle.look.specs.Run.{Runs}
-use Rattle.refine.specs.declared.Answer.{Answer}
-use Rattle.refine.specs.Rounds.{refused, rounds}
+use Rattle.rounds.specs.declared.Answer.{Answer}
+use Rattle.rounds.specs.Rounds.{refused, rounds}
 use Rattle.refine.specs.Refine.{Request, Photograph, sourceCorners, sceneOf, shown, entry, refinement, result, refine}
 
 module _ (s : Settings) (r : Request) (p : Photograph) {n : ℕ} (is : n ≡ entry r p) where

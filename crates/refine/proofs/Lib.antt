@@ -2,8 +2,4 @@
 pub mod Worked
 pub mod Checks
 pub mod Corners
-pub mod Crossings
-pub mod EdgeByEdge
-pub mod RoundByRound
 pub mod Calls
-pub mod SameGrid

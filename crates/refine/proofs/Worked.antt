@@ -20,7 +20,7 @@ use Rattle.profile.specs.Profile as Profile
 use Rattle.grid.specs.Grids as Grids
 use Rattle.grid.specs.Probes as Probes
 use Rattle.edge.specs.Edge as Edge
-use Rattle.refine.specs.Rounds as Rounds
+use Rattle.rounds.specs.Rounds as Rounds
 use Rattle.refine.specs.Refine as Refine
 use Rattle.ieee.specs.Floats.{_⊘_, f0, f1, f2, f3, f½, float}
 use Rattle.consts.specs.Consts.{defaults}

@@ -1,3 +1,2 @@
 -- What the contracts of `refine` cite.
-pub mod Rounds
 pub mod Refine

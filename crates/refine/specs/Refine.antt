@@ -19,8 +19,8 @@ use Rattle.sampling.specs.declared.Scene.{Scene}
 use Rattle.sampling.specs.Sampling.{goodView}
 use Rattle.look.specs.Look.{Look, value, reads}
 use Rattle.grid.specs.Grids.{Grid, goodGrid}
-use Rattle.refine.specs.declared.Answer.{Answer}
-use Rattle.refine.specs.Rounds.{refused, rounds}
+use Rattle.rounds.specs.declared.Answer.{Answer}
+use Rattle.rounds.specs.Rounds.{refused, rounds}
 
 -- ---- what is handed in
 

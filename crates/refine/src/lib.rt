@@ -1,62 +1,25 @@
-// refine.rs: a round, the rounds, the entry checks, and the public calls.
+// refine.rs, `refine_corners` and `refine_corners_mapped`: the entry checks, and the rounds behind them.
 ghost use mathlib.Core.Path.{_≡_};
 ghost use Rattle.consts.specs.Consts.{defaults};
 ghost use Rattle.sampling.specs.declared.View.the-variants.{Plain};
 ghost use Rattle.grid.specs.Grids.{gridOf};
 ghost use Rattle.refine.specs.Refine.{photograph, refine, request};
 use consts::Settings;
-use fit::EdgeStat;
-use line::Line2;
 use look::Meter;
 use pixel::SourcePixel;
 use pixel::WorkingPixel;
+use rounds::Answer;
 use sampling::Scene;
 use sampling::View;
 
 mod entry; // entry.rt: the entry checks
-mod rounds; // rounds.rt: a round, and the rounds
 
 pub use entry::enter;
-pub use rounds::refine_rounds;
-pub use rounds::refused;
-
-// Four corners in source pixels, what is counted of the four edges, and which corners were refined.
-pub struct RefinedCorners {
-    pub corners: [SourcePixel; 4],
-    pub edge_stats: [EdgeStat; 4],
-    pub corner_refined: [bool; 4],
-}
-
-// What a refinement returns: a number of document 01, and the corners or zeros.
-pub struct Answer {
-    pub number: u32,
-    pub refined: RefinedCorners,
-}
 
 // What the entry checks of a refinement come to: a number, and the corners after the division.
 pub struct Entered {
     pub number: u32,
     pub corners: [SourcePixel; 4],
-}
-
-// The edges of a round so far, and the number of one that ended it. An edge that is not valid has the
-// zero line.
-pub struct Edges {
-    pub number: u32,
-    pub lines: [Line2; 4],
-    pub edge_stats: [EdgeStat; 4],
-}
-
-// The edges of a round, and what sampling carries along.
-pub struct EdgesRun {
-    pub edges: Edges,
-    pub meter: Meter,
-}
-
-// A round's end, and what sampling carries along.
-pub struct Rounded {
-    pub answer: Answer,
-    pub meter: Meter,
 }
 
 // A label's corners, refined on the photograph. The label is its grid of modules and its corners in working

@@ -1,0 +1,46 @@
+-- `refine_round` meets its contract: no map ends it, and else its edges ran. Assumes nothing.
+use borrow.Author.Needs.{needs}
+use Rattle.rounds.proofs.RoundByRound.{no-map, edges-ran}
+use Rattle.rounds.proofs.refine_round.Statement.{statement}
+use Rattle.rounds.proofs.refine_round.Tie as tie
+
+quad-map-requires : tie.Need-quad-map-requires
+quad-map-requires c κs = search needs
+
+enum-told : tie.Need-enum-told
+enum-told c = search needs
+
+refused-requires : tie.Need-refused-requires
+refused-requires c κs = search needs
+
+enum-known-map : tie.Need-enum-known-map
+enum-known-map c = search needs
+
+fit-edges-requires : tie.Need-fit-edges-requires
+fit-edges-requires c κs = search needs
+
+round-end-requires : tie.Need-round-end-requires
+round-end-requires c κs = search needs
+
+returns : tie.Need-returns
+returns c = no-map _ _ _ _ _ _ (c .before .before .before .quad-map .ensures) _ _ (c .before .enum-told .given .1) (c .refused .ensures)
+
+same-length : tie.Need-same-length
+same-length c = search needs
+
+returns-2 : tie.Need-returns-2
+returns-2 c = edges-ran _ _ _ _ _ _ (c .before .before .before .before .before .before .before .before .before .before .quad-map .ensures) (c .before .before .before .before .before .before .before .before .map .given .1) (c .before .before .before .before .before .fit-edges .ensures) (c .round-end .ensures)
+
+pub refine-round-spec : {M : Type 1} → statement M
+refine-round-spec =
+    tie.close
+    (tie.spec
+    quad-map-requires
+    enum-told
+    refused-requires
+    enum-known-map
+    fit-edges-requires
+    round-end-requires
+    returns
+    same-length
+    returns-2)

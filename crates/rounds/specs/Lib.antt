@@ -1,0 +1,2 @@
+-- What the contracts of `rounds` cite.
+pub mod Rounds

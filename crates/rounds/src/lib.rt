@@ -1,0 +1,373 @@
+// refine.rs, `refine_round` and the rounds of `refine_corners`.
+ghost use mathlib.Core.Path.{_≡_};
+ghost use Prim.Native.Nat.{_-_, _<_};
+ghost use Rattle.sampling.specs.Photographs.{photo};
+ghost use Rattle.look.specs.Run.{Runs};
+ghost use Rattle.grid.specs.Grids.{gridOf};
+ghost use Rattle.line.specs.Line.{zeroLine};
+ghost use Rattle.rounds.specs.Rounds.{
+  edgesFrom,
+  further,
+  isWeak,
+  joined,
+  noEdges,
+  noStat,
+  refused as refusedBy,
+  round,
+  rounds,
+};
+use consts::Settings;
+use fit::EdgeFit;
+use fit::EdgeStat;
+use homography::Mapped;
+use homography::PerspectiveTransform;
+use line::Line2;
+use look::Meter;
+use pixel::Direction;
+use pixel::SourcePixel;
+use sampling::Scene;
+
+mod corners; // corners.rt: what the edges of a round come to
+
+// Four corners in source pixels, what is counted of the four edges, and which corners were refined.
+pub struct RefinedCorners {
+    pub corners: [SourcePixel; 4],
+    pub edge_stats: [EdgeStat; 4],
+    pub corner_refined: [bool; 4],
+}
+
+// What a refinement returns: a number of document 01, and the corners or zeros.
+pub struct Answer {
+    pub number: u32,
+    pub refined: RefinedCorners,
+}
+
+// The edges of a round so far, and the number of one that ended it. An edge that is not valid has the
+// zero line.
+pub struct Edges {
+    pub number: u32,
+    pub lines: [Line2; 4],
+    pub edge_stats: [EdgeStat; 4],
+}
+
+// The edges of a round, and what sampling carries along.
+pub struct EdgesRun {
+    pub edges: Edges,
+    pub meter: Meter,
+}
+
+// A round's end, and what sampling carries along.
+pub struct Rounded {
+    pub answer: Answer,
+    pub meter: Meter,
+}
+
+// ---- answers
+
+// A refusal: its number, zero corners, zero counts and flags off.
+pub fn refused(number: u32) -> Answer
+    ensures { λ r. ⌜ r ≡ refusedBy number ⌝ }
+{
+    Answer {
+        number,
+        refined: RefinedCorners {
+            corners: [SourcePixel(0.0, 0.0); 4],
+            edge_stats: [no_stat(); 4],
+            corner_refined: [false; 4],
+        },
+    }
+}
+
+// Nothing counted.
+fn no_stat() -> EdgeStat
+    ensures { λ r. ⌜ r ≡ noStat ⌝ }
+{
+    EdgeStat {
+        points_probed: 0,
+        points_fit: 0,
+        dropped_outliers: 0,
+        valid: false,
+    }
+}
+
+// ---- the edges
+
+fn zero_line() -> Line2
+    ensures { λ r. ⌜ r ≡ zeroLine ⌝ }
+{
+    Line2 {
+        centroid: SourcePixel(0.0, 0.0),
+        dir: Direction { x: 0.0, y: 0.0 },
+    }
+}
+
+impl Edges {
+    // No edge yet.
+    fn none() -> Edges
+        ensures { λ r. ⌜ r ≡ noEdges ⌝ }
+    {
+        Edges {
+            number: number::ANSWER,
+            lines: [zero_line(); 4],
+            edge_stats: [no_stat(); 4],
+        }
+    }
+
+    // Edge e put in its place.
+    fn with(self, e: usize, fit: EdgeFit) -> Edges
+        requires { ⌜ e < 4 ⌝ }
+        ensures { λ r. ⌜ r ≡ joined e self fit ⌝ }
+    {
+        let number = self.number;
+        let mut lines = self.lines;
+        let mut edge_stats = self.edge_stats;
+        match fit {
+            EdgeFit::Stops(n) => Edges {
+                number: n,
+                lines,
+                edge_stats,
+            },
+            EdgeFit::Weak(stat) => {
+                edge_stats[e] = stat;
+                Edges {
+                    number,
+                    lines,
+                    edge_stats,
+                }
+            }
+            EdgeFit::Lined(line, stat) => {
+                lines[e] = line;
+                edge_stats[e] = stat;
+                Edges {
+                    number,
+                    lines,
+                    edge_stats,
+                }
+            }
+        }
+    }
+}
+
+// The four edges in turn, each from a corner to the next. The number of one ends them.
+fn fit_edges(
+    settings: Settings,
+    bytes: &[u8],
+    stride: u32,
+    scene: Scene,
+    sheet: &mut [u8],
+    meter: Meter,
+    map: PerspectiveTransform,
+    q: [SourcePixel; 4],
+    modules: &[u8],
+    dim: u32,
+    inverted: bool,
+) -> EdgesRun
+    ensures { λ r. ⌜ Runs scene (photo (now (bytes .entry)) stride) (edgesFrom settings map q (gridOf dim (now (modules .entry))) inverted 4 0 noEdges) (r .edges) (now (sheet .entry)) (now (sheet .exit)) meter (r .meter) ⌝ }
+{
+    let mut edges = Edges::none();
+    let mut meter = meter;
+    let mut e: usize = 0;
+    while e < 4 {
+        let run = edge::refine_edge(
+            settings,
+            bytes,
+            stride,
+            scene,
+            sheet,
+            meter,
+            map,
+            modules,
+            dim,
+            inverted,
+            e as u32,
+            q[e],
+            q[(e + 1) % 4],
+        );
+        let fit = run.fit;
+        edges = edges.with(e, fit);
+        meter = run.meter;
+        if edges.number != number::ANSWER {
+            return EdgesRun { edges, meter };
+        }
+        e += 1;
+    }
+    EdgesRun { edges, meter }
+}
+
+// ---- a round, and the rounds
+
+// One round from the corners q.
+fn refine_round(
+    settings: Settings,
+    bytes: &[u8],
+    stride: u32,
+    scene: Scene,
+    sheet: &mut [u8],
+    meter: Meter,
+    modules: &[u8],
+    dim: u32,
+    inverted: bool,
+    q: [SourcePixel; 4],
+) -> Rounded
+    ensures { λ r. ⌜ Runs scene (photo (now (bytes .entry)) stride) (round settings (gridOf dim (now (modules .entry))) inverted q) (r .answer) (now (sheet .entry)) (now (sheet .exit)) meter (r .meter) ⌝ }
+{
+    match homography::quad_map(q) {
+        Mapped::NoMap => Rounded {
+            answer: refused(number::QUAD),
+            meter,
+        },
+        Mapped::By(map) => {
+            let run = fit_edges(
+                settings,
+                bytes,
+                stride,
+                scene,
+                sheet,
+                meter,
+                map,
+                q,
+                modules,
+                dim,
+                inverted,
+            );
+            let edges = run.edges;
+            let meter = run.meter;
+            Rounded {
+                answer: corners::round_end(q, edges),
+                meter,
+            }
+        }
+    }
+}
+
+// A round without a map, or with under two valid edges.
+fn is_weak(answer: Answer) -> bool
+    ensures { λ r. ⌜ r ≡ isWeak answer ⌝ }
+{
+    if answer.number == number::QUAD {
+        return true;
+    }
+    answer.number == number::THIN
+}
+
+// A round from an answer's corners.
+fn next_round(
+    settings: Settings,
+    bytes: &[u8],
+    stride: u32,
+    scene: Scene,
+    sheet: &mut [u8],
+    meter: Meter,
+    modules: &[u8],
+    dim: u32,
+    inverted: bool,
+    last: Answer,
+) -> Rounded
+    ensures { λ r. ⌜ Runs scene (photo (now (bytes .entry)) stride) (round settings (gridOf dim (now (modules .entry))) inverted (last .refined .corners)) (r .answer) (now (sheet .entry)) (now (sheet .exit)) meter (r .meter) ⌝ }
+{
+    let refined = last.refined;
+    let corners = refined.corners;
+    refine_round(
+        settings,
+        bytes,
+        stride,
+        scene,
+        sheet,
+        meter,
+        modules,
+        dim,
+        inverted,
+        corners,
+    )
+}
+
+// The rounds after the first, each from the corners of the last. A weak one ends them and leaves the answer
+// that there is, since that is still measured; the number of an edge ends the refinement.
+fn further_rounds(
+    settings: Settings,
+    bytes: &[u8],
+    stride: u32,
+    scene: Scene,
+    sheet: &mut [u8],
+    meter: Meter,
+    modules: &[u8],
+    dim: u32,
+    inverted: bool,
+    first: Answer,
+) -> Rounded
+    ensures { λ r. ⌜ Runs scene (photo (now (bytes .entry)) stride) (further settings (gridOf dim (now (modules .entry))) inverted (settings .rounds - 1) first) (r .answer) (now (sheet .entry)) (now (sheet .exit)) meter (r .meter) ⌝ }
+{
+    let mut answer = first;
+    let mut meter = meter;
+    let mut round: u32 = 1;
+    while round < settings.rounds {
+        let run = next_round(
+            settings,
+            bytes,
+            stride,
+            scene,
+            sheet,
+            meter,
+            modules,
+            dim,
+            inverted,
+            answer,
+        );
+        let next = run.answer;
+        meter = run.meter;
+        if is_weak(next) {
+            return Rounded { answer, meter };
+        }
+        if next.number != number::ANSWER {
+            return run;
+        }
+        answer = next;
+        round += 1;
+    }
+    Rounded { answer, meter }
+}
+
+// All rounds. The first one's refusal is the refinement's.
+pub fn refine_rounds(
+    settings: Settings,
+    bytes: &[u8],
+    stride: u32,
+    scene: Scene,
+    sheet: &mut [u8],
+    meter: Meter,
+    modules: &[u8],
+    dim: u32,
+    inverted: bool,
+    q: [SourcePixel; 4],
+) -> Rounded
+    ensures { λ r. ⌜ Runs scene (photo (now (bytes .entry)) stride) (rounds settings (gridOf dim (now (modules .entry))) inverted q) (r .answer) (now (sheet .entry)) (now (sheet .exit)) meter (r .meter) ⌝ }
+{
+    let first = refine_round(
+        settings,
+        bytes,
+        stride,
+        scene,
+        sheet,
+        meter,
+        modules,
+        dim,
+        inverted,
+        q,
+    );
+    let answer = first.answer;
+    if answer.number != number::ANSWER {
+        return first;
+    }
+    further_rounds(
+        settings,
+        bytes,
+        stride,
+        scene,
+        sheet,
+        first.meter,
+        modules,
+        dim,
+        inverted,
+        answer,
+    )
+}
