@@ -1,108 +1,122 @@
--- The candidates of an edge, place by place. Two places make a module, so what the first 2 n places hold is what the first n modules hold.
+-- The candidates of an edge, place by place. Two places make a module, so what the places hold from the start on is what the modules hold.
 -- Assumes nothing.
 use mathlib.Core.Path.{_≡_, refl, sym, ap, _∙_}
-use Prim.Native.Nat.{ℕ, zero, suc, _+_, _*_, _/_, _%_, _≤_}
-use native.Mathlib.Nat.{add-suc, suc-add, add-zero, zero-add}
+use Prim.Native.Nat.{ℕ, zero, suc, _+_, _-_, _*_, _/_, _%_, _≤_, _<_}
+use native.Mathlib.Nat.{sub-zero}
 use native.Mathlib.Numerals.{add-one}
 use native.Mathlib.Omega.{arith}
-use mathlib.Core.Bool.{Bool, true, false, not, _&&_}
-use mathlib.Core.List.{List, [], _∷_, _++_, append-assoc}
-use lib.ListN.{length, length-append}
-use lib.Ieee.{Float}
-use Rattle.ieee.specs.Floats.{if_then_else_, _⊕_, float}
+use mathlib.Core.Bool.{Bool, true, false}
+use mathlib.Core.Logic.{_⊎_, inl, inr, ⊎-elim}
+use mathlib.Core.List.{List, [], _∷_, _++_, append-assoc, append-nil}
+use lib.ListN.{length, length-append, drop}
+use lib.Seq.{drop-append-add, drop-nil}
+use Rattle.ieee.specs.Floats.{if_then_else_}
 use Rattle.consts.specs.declared.Settings.{Settings}
 use Rattle.grid.specs.Grids.{Grid, borderDark}
 use Rattle.grid.specs.Probes.{nearEnd, candidateAt, moduleCandidates, candidatesFrom, candidates}
-use Rattle.grid.specs.Places.{placeAt, isCandidate, probeAt, candidate}
+use Rattle.grid.specs.Places.{fractionAt, placeAt, probeAt, candidate, candidatesOf, onward, Sought}
 use Rattle.grid.specs.declared.Probe.{Probe}
-
-both : (dark near : Bool) (x : List Probe) → (if dark && not near then x else []) ≡ (if dark then (if near then [] else x) else [])
-both true true x = refl
-both true false x = refl
-both false near x = refl
 
 pair : (dark : Bool) (x y : List Probe) → (if dark then x else []) ++ (if dark then y else []) ≡ (if dark then x ++ y else [])
 pair true x y = refl
 pair false x y = refl
 
 module _ (s : Settings) (g : Grid) (e : ℕ) where
-  -- those of the first j places
-  unfoldable pub upTo : ℕ → List Probe
-  upTo zero = []
-  upTo (suc j) = upTo j ++ candidate s g e j
-
-  -- a place in module m at a fraction
-  in-module : (j m : ℕ) (f : Float) → j / 2 ≡ m → placeAt s j ≡ float m ⊕ f → candidate s g e j ≡ (if borderDark g e m then candidateAt s g e m f else [])
-  unfolding candidate isCandidate probeAt candidateAt
-  in-module j m f h k = rw (h, k) (both (borderDark g e m) (nearEnd s (g .dim) (float m ⊕ f)) _)
-
-  first-place : (m : ℕ) → placeAt s (2 * m) ≡ float m ⊕ s .«probe_fraction_first»
-  unfolding placeAt
-  first-place m =
-      let half : 2 * m / 2 ≡ m = omega arith in
-      let even : 2 * m % 2 ≡ 0 = omega arith in
-      rw (half, even)
-
-  second-place : (m : ℕ) → placeAt s (suc (2 * m)) ≡ float m ⊕ s .«probe_fraction_second»
-  unfolding placeAt
-  second-place m =
-      let half : suc (2 * m) / 2 ≡ m = omega arith in
-      let odd : suc (2 * m) % 2 ≡ 1 = omega arith in
-      rw (half, odd)
+  -- ---- modules
 
   two-places : (m : ℕ) → candidate s g e (2 * m) ++ candidate s g e (suc (2 * m)) ≡ moduleCandidates s g e m
-  unfolding moduleCandidates
+  unfolding candidate fractionAt moduleCandidates
   two-places m =
-      let h : 2 * m / 2 ≡ m = omega arith in
-      let k : suc (2 * m) / 2 ≡ m = omega arith in
-      rw (in-module (2 * m) m _ h (first-place m), in-module (suc (2 * m)) m _ k (second-place m)) (pair (borderDark g e m) _ _)
+      let half : 2 * m / 2 ≡ m = omega arith in
+      let even : 2 * m % 2 ≡ 0 = omega arith in
+      let half-too : suc (2 * m) / 2 ≡ m = omega arith in
+      let odd : suc (2 * m) % 2 ≡ 1 = omega arith in
+      rw (half, even, half-too, odd) (pair (borderDark g e m) _ _)
 
-  -- one more module comes behind the others
-  module-more : (n m : ℕ) (got : List Probe) → candidatesFrom s g e (suc n) m got ≡ candidatesFrom s g e n m got ++ moduleCandidates s g e (m + n)
-  unfolding candidatesFrom
-  module-more zero m got = rw add-zero
-  module-more (suc n) m got = rw (add-suc, ← suc-add) (module-more n (suc m) (got ++ moduleCandidates s g e m))
-
-  places-modules : (n : ℕ) → upTo (2 * n) ≡ candidatesFrom s g e n 0 []
-  unfolding upTo candidatesFrom
-  places-modules zero = refl
-  places-modules (suc n) =
+  modules-places : (n m : ℕ) (got : List Probe) → candidatesFrom s g e n m got ≡ got ++ candidatesOf s g e (2 * n) (2 * m)
+  unfolding candidatesFrom candidatesOf
+  modules-places zero m got = sym (append-nil got)
+  modules-places (suc n) m got =
       let two : 2 * suc n ≡ suc (suc (2 * n)) = omega arith in
-      ap upTo two
-      ∙ append-assoc (upTo (2 * n)) (candidate s g e (2 * n)) (candidate s g e (suc (2 * n)))
-      ∙ ap (λ (l : List Probe). upTo (2 * n) ++ l) (two-places n)
-      ∙ ap (λ (l : List Probe). l ++ moduleCandidates s g e n) (places-modules n)
-      ∙ ap (λ (k : ℕ). candidatesFrom s g e n 0 [] ++ moduleCandidates s g e k) (sym (zero-add n))
-      ∙ sym (module-more n 0 [])
+      let next : 2 * suc m ≡ suc (suc (2 * m)) = omega arith in
+      let left = candidatesOf s g e (2 * n) (suc (suc (2 * m))) in
+      modules-places n (suc m) (got ++ moduleCandidates s g e m)
+      ∙ ap (λ (j : ℕ). (got ++ moduleCandidates s g e m) ++ candidatesOf s g e (2 * n) j) next
+      ∙ append-assoc got (moduleCandidates s g e m) left
+      ∙ ap (λ (l : List Probe). got ++ (l ++ left)) (sym (two-places m))
+      ∙ ap (λ (l : List Probe). got ++ l) (append-assoc (candidate s g e (2 * m)) (candidate s g e (suc (2 * m))) left)
+      ∙ ap (λ (k : ℕ). got ++ candidatesOf s g e k (2 * m)) (sym two)
 
-  -- all places are passed
-  pub all-places : (j : ℕ) → j ≡ 2 * g .dim → upTo j ≡ candidates s g e
+  -- ---- places
+
+  -- from the start on they are all
+  pub onward-all : onward s g e 0 ≡ candidates s g e
   unfolding candidates
-  all-places j h = ap upTo h ∙ places-modules (g .dim)
+  onward-all = rw sub-zero (sym (modules-places (g .dim) 0 []))
 
-  pub at-most-one : (j : ℕ) → length (candidate s g e j) ≤ 1
-  unfolding candidate
-  at-most-one j = one (isCandidate s g e j)
+  pub onward-more : (j : ℕ) → j < 2 * g .dim → onward s g e j ≡ candidate s g e j ++ onward s g e (j + 1)
+  unfolding candidatesOf
+  onward-more j l =
+      let less : 2 * g .dim - j ≡ suc (2 * g .dim - (j + 1)) = omega arith in
+      rw (less, add-one j)
+
+  pub onward-end : (j : ℕ) → 2 * g .dim ≤ j → onward s g e j ≡ []
+  unfolding candidatesOf
+  onward-end j l = let none : 2 * g .dim - j ≡ 0 = omega arith in rw none
+
+  -- a place holds one or none
+  one-or-none : (j : ℕ) → (candidate s g e j ≡ probeAt s g e j ∷ []) ⊎ (candidate s g e j ≡ [])
+  unfolding candidate candidateAt probeAt
+  one-or-none j = go (borderDark g e (j / 2)) (nearEnd s (g .dim) (placeAt s j))
     where
-      one : (b : Bool) → length (if b then probeAt s g e j ∷ [] else []) ≤ 1
-      one true = omega arith
-      one false = omega arith
+      at : Bool → Bool → List Probe
+      at dark near = if dark then (if near then [] else probeAt s g e j ∷ []) else []
 
-  -- a place holds at most one
-  pub few : (j : ℕ) → length (upTo j) ≤ j
-  unfolding upTo
-  few zero = omega arith
-  few (suc j) = simp length-append (omega (arith, few j, at-most-one j))
+      go : (dark near : Bool) → (at dark near ≡ probeAt s g e j ∷ []) ⊎ (at dark near ≡ [])
+      go true true = inr refl
+      go true false = inl refl
+      go false near = inr refl
 
-  -- one more place is passed
-  pub seen-more : (j : ℕ) {n k : ℕ} → n ≡ length (upTo j) → k ≡ length (candidate s g e j) → n + k ≡ length (upTo (j + 1))
-  unfolding upTo
-  seen-more j hn hk = rw (add-one j, length-append (upTo j), hn, hk)
+  at-most-one : (j : ℕ) → length (candidate s g e j) ≤ 1
+  at-most-one j = ⊎-elim (λ one. omega (arith, ap length one)) (λ none. omega (arith, ap length none)) (one-or-none j)
 
-  pub count-more : (j : ℕ) {n : ℕ} → n ≡ length (upTo j) → isCandidate s g e j ≡ true → n + 1 ≡ length (upTo (j + 1))
-  unfolding candidate
-  count-more j hn h = seen-more j hn (rw h)
+  pub at-most-two : (i j : ℕ) {first second : ℕ} → first ≡ length (candidate s g e i) → second ≡ length (candidate s g e j) → first + second ≤ 2
+  at-most-two i j one two = omega (arith, at-most-one i, at-most-one j)
 
-  pub count-same : (j : ℕ) {n : ℕ} → n ≡ length (upTo j) → isCandidate s g e j ≡ false → n ≡ length (upTo (j + 1))
-  unfolding candidate
-  count-same j {n} hn h = sym (add-zero n) ∙ seen-more j hn (rw h)
+  -- a module is counted
+  pub count-more : (m n : ℕ) {first second : ℕ} → m < g .dim → first ≡ length (candidate s g e (2 * m)) → second ≡ length (candidate s g e (2 * m + 1))
+      → n + length (onward s g e (2 * m)) ≡ length (candidates s g e) → n + (first + second) + length (onward s g e (2 * (m + 1))) ≡ length (candidates s g e)
+  count-more m n l one two had =
+      let next : 2 * (m + 1) ≡ 2 * m + 1 + 1 = omega arith in
+      let more = ap length (onward-more (2 * m) (omega arith)) ∙ length-append (candidate s g e (2 * m)) _ in
+      let more-too = ap length (onward-more (2 * m + 1) (omega arith)) ∙ length-append (candidate s g e (2 * m + 1)) _ in
+      rw next (omega (arith, more, more-too))
+
+  -- ---- a candidate is sought
+
+  module _ (from skip : ℕ) where
+    -- a place is passed
+    pub sought-on : (j : ℕ) {left here : ℕ} → j < 2 * g .dim → here ≡ length (candidate s g e j) → here ≤ left
+        → drop left (onward s g e j) ≡ drop skip (onward s g e from) → drop (left - here) (onward s g e (j + 1)) ≡ drop skip (onward s g e from)
+    sought-on j {left} {here} l is few had =
+        let behind = onward s g e (j + 1) in
+        let all : length (candidate s g e j) + (left - here) ≡ left = omega arith in
+        sym (drop-append-add (candidate s g e j) behind (left - here))
+        ∙ ap (λ (n : ℕ). drop n (candidate s g e j ++ behind)) all
+        ∙ ap (drop left) (sym (onward-more j l))
+        ∙ had
+
+    pub sought-here : (j : ℕ) {left here : ℕ} → here ≡ length (candidate s g e j) → left < here
+        → drop left (onward s g e j) ≡ drop skip (onward s g e from) → Sought s g e from skip j
+    sought-here j {left} is more had =
+        let none : left ≡ 0 = omega (arith, at-most-one j) in
+        record {
+          left = sym (ap (λ (n : ℕ). drop n (onward s g e j)) none) ∙ had;
+          here = λ inside. ⊎-elim (λ one. one) (λ none. absurd (omega (arith, ap length none))) (one-or-none j);
+        }
+
+    pub sought-none : (j left : ℕ) → 2 * g .dim ≤ j → drop left (onward s g e j) ≡ drop skip (onward s g e from) → Sought s g e from skip (2 * g .dim)
+    sought-none j left l had = record {
+      left = onward-end (2 * g .dim) (omega arith) ∙ sym (drop-nil left) ∙ ap (drop left) (sym (onward-end j l)) ∙ had;
+      here = λ inside. absurd (omega arith);
+    }

@@ -1,5 +1,6 @@
 -- The laws that the proofs of `grid` cite.
 pub mod Modules
+pub mod Sides
 pub mod Candidates
 pub mod Thinning
 pub mod SameGrid

@@ -1,33 +1,66 @@
 -- The places of an edge, two in each module and counted from its start: what the two passes over them promise. Definitions only.
 use mathlib.Core.Path.{_≡_}
-use Prim.Native.Nat.{ℕ, _-_, _/_, _%_, _≤_, _<_}
-use mathlib.Core.Bool.{Bool, not, _&&_}
-use mathlib.Core.List.{List, [], _∷_}
+use Prim.Native.Nat.{ℕ, zero, suc, _+_, _-_, _*_, _/_, _%_, _≤_, _<_}
+use mathlib.Core.Bool.{Bool, not}
+use mathlib.Core.List.{List, [], _∷_, _++_}
 use lib.Dec.{eqb}
-use lib.ListN.{length, take, drop, replicate}
+use lib.ListN.{length, take, drop, replicate, getD}
 use lib.Ieee.{Float}
 use Rattle.ieee.specs.Floats.{if_then_else_, _⊕_, _⊘_, float}
 use Rattle.consts.specs.Consts.{room}
 use Rattle.consts.specs.declared.Settings.{Settings}
-use Rattle.grid.specs.Grids.{Grid, borderDark, inwardDark}
-use Rattle.grid.specs.Probes.{nearEnd, candidates, everyFrom, thinned, held, noProbe}
+use Rattle.grid.specs.Grids.{Grid, bySide, borderDark, inwardDark}
+use Rattle.grid.specs.Probes.{candidateAt, candidates, everyFrom, thinned, held, noProbe}
 use Rattle.grid.specs.declared.Probe.{Probe}
 use Rattle.grid.specs.declared.Probes.{Probes}
-use Rattle.grid.specs.declared.Step.{Step}
+use Rattle.grid.specs.declared.Side.{Side}
+
+-- ---- where the modules of an edge lie
+
+-- the first one, so many modules behind the edge
+unfoldable pub startOf : ℕ → ℕ → ℕ → ℕ
+startOf dim e depth = bySide e (depth * dim) (dim - 1 - depth) ((dim - 1 - depth) * dim) depth
+
+-- how far apart the next ones lie
+unfoldable pub strideOf : ℕ → ℕ → ℕ
+strideOf dim e = bySide e 1 dim 1 dim
+
+unfoldable pub sideOf : ℕ → ℕ → Side
+sideOf dim e = record { dim = dim; edge = e; border = startOf dim e 0; inward = startOf dim e 1; step = strideOf dim e }
+
+-- what stands in a side is that of its edge
+abbrev pub IsSide : Side → Type 0
+IsSide r = r ≡ sideOf (r .dim) (r .edge)
+
+-- whether module m of those that lie a step apart is dark
+unfoldable pub darkAt : List ℕ → ℕ → ℕ → ℕ → Bool
+darkAt ms first step m = eqb (getD ms (first + m * step) 0) 1
+
+-- ---- places
+
+-- the fraction of its module at which place j lies
+unfoldable pub fractionAt : Settings → ℕ → Float
+fractionAt s j = if eqb (j % 2) 0 then s .«probe_fraction_first» else s .«probe_fraction_second»
 
 -- where place j lies, in modules
-unfoldable pub placeAt : Settings → ℕ → Float
-placeAt s j = if eqb (j % 2) 0 then float (j / 2) ⊕ s .«probe_fraction_first» else float (j / 2) ⊕ s .«probe_fraction_second»
-
-unfoldable pub isCandidate : Settings → Grid → ℕ → ℕ → Bool
-isCandidate s g e j = borderDark g e (j / 2) && not (nearEnd s (g .dim) (placeAt s j))
+abbrev pub placeAt : Settings → ℕ → Float
+placeAt s j = float (j / 2) ⊕ fractionAt s j
 
 unfoldable pub probeAt : Settings → Grid → ℕ → ℕ → Probe
 probeAt s g e j = record { t = placeAt s j ⊘ float (g .dim); «inward_differs» = not (inwardDark g e (j / 2)) }
 
 -- the candidate at place j, if there is one
 unfoldable pub candidate : Settings → Grid → ℕ → ℕ → List Probe
-candidate s g e j = if isCandidate s g e j then probeAt s g e j ∷ [] else []
+candidate s g e j = if borderDark g e (j / 2) then candidateAt s g e (j / 2) (fractionAt s j) else []
+
+-- those of n places from j on
+unfoldable pub candidatesOf : Settings → Grid → ℕ → ℕ → ℕ → List Probe
+candidatesOf s g e zero j = []
+candidatesOf s g e (suc n) j = candidate s g e j ++ candidatesOf s g e n (suc j)
+
+-- those from place j to the edge's end
+abbrev pub onward : Settings → Grid → ℕ → ℕ → List Probe
+onward s g e j = candidatesOf s g e (2 * g .dim - j) j
 
 -- ---- the passes
 
@@ -41,12 +74,10 @@ pub record Thins (n most k : ℕ) : Type 0 where
   pub some : 0 < k
   pub right : (ps : List Probe) → length ps ≡ n → take most (everyFrom k 0 ps) ≡ thinned most ps
 
--- place j, behind so many candidates, is passed: what it adds to the candidates, and to every k-th of them
-pub record Passes (s : Settings) (g : Grid) (e k j seen : ℕ) (r : Step) : Type 0 where
-  pub passed : r .passed ≡ length (candidate s g e j)
-  pub taken : take (r .taken) (r .probe ∷ []) ≡ everyFrom k seen (candidate s g e j)
-  pub one : r .taken ≤ 1
-  pub unused : r .taken ≡ 0 → r .probe ≡ noProbe
+-- from a place on, behind so many candidates, the next one is at place r; at the edge's end there is none
+pub record Sought (s : Settings) (g : Grid) (e from skip r : ℕ) : Type 0 where
+  pub left : onward s g e r ≡ drop skip (onward s g e from)
+  pub here : r < 2 * g .dim → candidate s g e r ≡ probeAt s g e r ∷ []
 
 -- every k-th candidate, up to `most`
 pub record Picked (s : Settings) (g : Grid) (e k most : ℕ) (r : Probes) : Type 0 where
@@ -54,8 +85,3 @@ pub record Picked (s : Settings) (g : Grid) (e k most : ℕ) (r : Probes) : Type
   pub rest : drop (r .count) (r .probes) ≡ replicate (room - r .count) noProbe
   pub fits : r .count ≤ most
   pub whole : length (r .probes) ≡ room
-
--- all of the above, for a proof that computes with them: to unfold this is to unfold what its line names
-unfoldable pub opened : Unit {0}
-unfolding placeAt isCandidate probeAt candidate
-opened = tt

@@ -1,12 +1,12 @@
 // bitmatrix.rs, `get`, and refine.rs, the selection of probes: which places of an edge are probed.
 ghost use mathlib.Core.Path.{_≡_};
-ghost use Prim.Native.Nat.{_-_, _*_, _≤_, _<_, min};
+ghost use Prim.Native.Nat.{_+_, _-_, _*_, _≤_, _<_, min};
 ghost use mathlib.Core.Bool.{_&&_};
 ghost use lib.Dec.{leb};
 ghost use lib.ListN.{length};
-ghost use Rattle.grid.specs.Grids.{gridOf, dark as isDark, edgeDark, bits, goodGrid};
+ghost use Rattle.grid.specs.Grids.{gridOf, bits, goodGrid};
 ghost use Rattle.grid.specs.Probes.{nearEnd, Selected};
-ghost use Rattle.grid.specs.Places.{placeAt, isCandidate, probeAt, Counted, Thins, Passes, Picked};
+ghost use Rattle.grid.specs.Places.{darkAt, startOf, strideOf, sideOf, IsSide, placeAt, probeAt, candidate, Counted, Thins, Sought, Picked};
 use consts::ROOM;
 use consts::Settings;
 
@@ -22,20 +22,24 @@ pub struct Probes {
     pub probes: [Probe; ROOM],
 }
 
-// What a place adds: to the candidates, and to the probes; each is 0 or 1, and `probe` counts where it is taken.
-struct Step {
-    passed: usize,
-    taken: usize,
-    probe: Probe,
+// An edge of a label, 0 the top, 1 right, 2 bottom, else left. Found once for all its modules: where the
+// first one and the one behind that lie, and how far apart the next ones.
+struct Side {
+    dim: u32,
+    edge: u32,
+    border: usize,
+    inward: usize,
+    step: usize,
 }
 
 // ---- modules
 
-// Whether a module is dark; past the end of the modules none is.
-fn dark(modules: &[u8], dim: u32, column: u32, row: u32) -> bool
-    ensures { λ r. ⌜ r ≡ isDark (gridOf dim (now (modules .entry))) column row ⌝ }
+// Whether module m of those that lie a step apart is dark; past the end of the modules none is.
+fn dark(modules: &[u8], first: usize, step: usize, m: usize) -> bool
+    requires { ⌜ first + m * step < 18446744073709551616 ⌝ }
+    ensures { λ r. ⌜ r ≡ darkAt (now (modules .entry)) first step m ⌝ }
 {
-    let i = row as usize * dim as usize + column as usize;
+    let i = first + m * step;
     if i < modules.len() {
         return modules[i] == 1;
     }
@@ -52,16 +56,40 @@ fn less(n: u32, k: u32) -> u32
     n - k
 }
 
-// Module m of an edge, or the one so many modules behind it: edge 0 is the top, 1 right, 2 bottom, else left.
-fn edge_dark(modules: &[u8], dim: u32, edge: u32, m: u32, depth: u32) -> bool
-    ensures { λ r. ⌜ r ≡ edgeDark (gridOf dim (now (modules .entry))) edge m depth ⌝ }
+// Where the first module lies, so many modules behind an edge.
+fn start(dim: u32, edge: u32, depth: u32) -> usize
+    ensures { λ r. ⌜ r ≡ startOf dim edge depth ⌝ }
 {
-    let far = less(less(dim, 1), depth);
+    let far = less(less(dim, 1), depth) as usize;
     match edge {
-        0 => dark(modules, dim, m, depth),
-        1 => dark(modules, dim, far, m),
-        2 => dark(modules, dim, m, far),
-        _ => dark(modules, dim, depth, m),
+        0 => depth as usize * dim as usize,
+        1 => far,
+        2 => far * dim as usize,
+        _ => depth as usize,
+    }
+}
+
+// How far apart the next ones lie.
+fn stride(dim: u32, edge: u32) -> usize
+    ensures { λ r. ⌜ r ≡ strideOf dim edge ⌝ }
+{
+    match edge {
+        0 => 1,
+        1 => dim as usize,
+        2 => 1,
+        _ => dim as usize,
+    }
+}
+
+fn side_of(dim: u32, edge: u32) -> Side
+    ensures { λ r. ⌜ r ≡ sideOf dim edge ⌝ }
+{
+    Side {
+        dim,
+        edge,
+        border: start(dim, edge, 0),
+        inward: start(dim, edge, 1),
+        step: stride(dim, edge),
     }
 }
 
@@ -128,40 +156,45 @@ fn near_end(settings: Settings, dim: u32, at: f64) -> bool
     at > dim as f64 - settings.edge_margin_modules
 }
 
-// Whether place j is one to probe: in a dark module, and in the middle of the edge.
-fn is_candidate(settings: Settings, modules: &[u8], dim: u32, edge: u32, j: usize) -> bool
-    requires { ⌜ j < 8589934592 ⌝ }
-    ensures { λ r. ⌜ r ≡ isCandidate settings (gridOf dim (now (modules .entry))) edge j ⌝ }
+// How many candidates place j holds: one in a dark module in the middle of the edge, else none.
+fn candidates_at(settings: Settings, modules: &[u8], side: Side, j: usize) -> usize
+    requires { ⌜ (j < 8589934592) × IsSide side ⌝ }
+    ensures { λ r. ⌜ r ≡ length (candidate settings (gridOf (side .dim) (now (modules .entry))) (side .edge) j) ⌝ }
 {
-    if !edge_dark(modules, dim, edge, (j / 2) as u32, 0) {
-        return false;
+    if !dark(modules, side.border, side.step, j / 2) {
+        return 0;
     }
-    !near_end(settings, dim, place(settings, j))
+    if near_end(settings, side.dim, place(settings, j)) {
+        return 0;
+    }
+    1
 }
 
-fn probe_at(settings: Settings, modules: &[u8], dim: u32, edge: u32, j: usize) -> Probe
-    requires { ⌜ j < 8589934592 ⌝ }
-    ensures { λ r. ⌜ r ≡ probeAt settings (gridOf dim (now (modules .entry))) edge j ⌝ }
+fn probe_at(settings: Settings, modules: &[u8], side: Side, j: usize) -> Probe
+    requires { ⌜ (j < 8589934592) × IsSide side ⌝ }
+    ensures { λ r. ⌜ r ≡ probeAt settings (gridOf (side .dim) (now (modules .entry))) (side .edge) j ⌝ }
 {
     Probe {
-        t: place(settings, j) / dim as f64,
-        inward_differs: !edge_dark(modules, dim, edge, (j / 2) as u32, 1),
+        t: place(settings, j) / side.dim as f64,
+        inward_differs: !dark(modules, side.inward, side.step, j / 2),
     }
 }
 
 // ---- the two passes
 
-fn count_candidates(settings: Settings, modules: &[u8], dim: u32, edge: u32) -> usize
-    ensures { λ r. ⌜ Counted settings (gridOf dim (now (modules .entry))) edge r ⌝ }
+// Module by module, since the two places of one share its darkness.
+fn count_candidates(settings: Settings, modules: &[u8], side: Side) -> usize
+    requires { ⌜ IsSide side ⌝ }
+    ensures { λ r. ⌜ Counted settings (gridOf (side .dim) (now (modules .entry))) (side .edge) r ⌝ }
 {
-    let places = 2 * dim as usize;
+    let dim = side.dim as usize;
     let mut n: usize = 0;
-    let mut j: usize = 0;
-    while j < places {
-        if is_candidate(settings, modules, dim, edge, j) {
-            n += 1;
-        }
-        j += 1;
+    let mut m: usize = 0;
+    while m < dim {
+        let first = candidates_at(settings, modules, side, 2 * m);
+        let second = candidates_at(settings, modules, side, 2 * m + 1);
+        n += first + second;
+        m += 1;
     }
     n
 }
@@ -180,65 +213,49 @@ fn pitch(n: usize, most: usize) -> usize
     (n + (most - 1)) / most
 }
 
-// Place j, behind so many candidates.
-fn turn(
-    settings: Settings,
-    modules: &[u8],
-    dim: u32,
-    edge: u32,
-    k: usize,
-    j: usize,
-    seen: usize,
-) -> Step
-    requires { ⌜ (j < 8589934592) × (0 < k) ⌝ }
-    ensures { λ r. ⌜ Passes settings (gridOf dim (now (modules .entry))) edge k j seen r ⌝ }
+// From a place on, the place of the candidate behind so many others, or the edge's end where there is none.
+fn seek(settings: Settings, modules: &[u8], side: Side, from: usize, skip: usize) -> usize
+    requires { ⌜ (from ≤ 2 * side .dim) × IsSide side ⌝ }
+    ensures { λ r. ⌜ Sought settings (gridOf (side .dim) (now (modules .entry))) (side .edge) from skip r ⌝ }
 {
-    let none = Probe {
-        t: 0.0,
-        inward_differs: false,
-    };
-    if !is_candidate(settings, modules, dim, edge, j) {
-        return Step {
-            passed: 0,
-            taken: 0,
-            probe: none,
-        };
+    let places = 2 * side.dim as usize;
+    let mut left = skip;
+    let mut j = from;
+    while j < places {
+        let here = candidates_at(settings, modules, side, j);
+        if left < here {
+            return j;
+        }
+        left -= here;
+        j += 1;
     }
-    if seen % k != 0 {
-        return Step {
-            passed: 1,
-            taken: 0,
-            probe: none,
-        };
-    }
-    Step {
-        passed: 1,
-        taken: 1,
-        probe: probe_at(settings, modules, dim, edge, j),
-    }
+    places
 }
 
 // Every k-th candidate, while there is room.
-fn pick(settings: Settings, modules: &[u8], dim: u32, edge: u32, k: usize, most: usize) -> Probes
-    requires { ⌜ (0 < k) × (most ≤ 64) ⌝ }
-    ensures { λ r. ⌜ Picked settings (gridOf dim (now (modules .entry))) edge k most r ⌝ }
+fn pick(settings: Settings, modules: &[u8], side: Side, k: usize, most: usize) -> Probes
+    requires { ⌜ ((0 < k) × (most ≤ 64)) × IsSide side ⌝ }
+    ensures { λ r. ⌜ Picked settings (gridOf (side .dim) (now (modules .entry))) (side .edge) k most r ⌝ }
 {
     let none = Probe {
         t: 0.0,
         inward_differs: false,
     };
     let mut probes = [none; ROOM];
-    let places = 2 * dim as usize;
+    let places = 2 * side.dim as usize;
     let mut count: usize = 0;
-    let mut seen: usize = 0;
     let mut j: usize = 0;
-    while j < places && count < most {
-        let step = turn(settings, modules, dim, edge, k, j, seen);
-        let probe = step.probe;
+    let mut skip: usize = 0;
+    while count < most {
+        let at = seek(settings, modules, side, j, skip);
+        if at >= places {
+            return Probes { count, probes };
+        }
+        let probe = probe_at(settings, modules, side, at);
         probes[count] = probe;
-        count += step.taken;
-        seen += step.passed;
-        j += 1;
+        count += 1;
+        j = at + 1;
+        skip = k - 1;
     }
     Probes { count, probes }
 }
@@ -259,6 +276,7 @@ pub fn probes_of(settings: Settings, modules: &[u8], dim: u32, edge: u32) -> Pro
     ensures { λ r. ⌜ Selected settings (gridOf dim (now (modules .entry))) edge r ⌝ }
 {
     let most = limit(settings.max_points_per_edge);
-    let n = count_candidates(settings, modules, dim, edge);
-    pick(settings, modules, dim, edge, pitch(n, most), most)
+    let side = side_of(dim, edge);
+    let n = count_candidates(settings, modules, side);
+    pick(settings, modules, side, pitch(n, most), most)
 }

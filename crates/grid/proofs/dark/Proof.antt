@@ -1,28 +1,26 @@
 -- `grid::dark` meets its contract: the read is the definition's, and past the end that gives 0. Assumes nothing.
-use native.Mathlib.Omega.{arith}
 use mathlib.Core.Path.{refl}
 use lib.ListN.{List·getD-eq-default}
 use borrow.Author.Needs.{needs}
-use Rattle.grid.specs.Grids.{dark}
-use Rattle.grid.proofs.Modules.{row-most}
+use Rattle.grid.specs.Places.{darkAt}
 use Rattle.grid.proofs.dark.Statement.{statement}
 use Rattle.grid.proofs.dark.Tie as tie
 
 mul-i : tie.Need-mul-i
-mul-i c = omega (arith, row-most (c .args .row) (c .args .dim) (omega arith) (omega arith))
+mul-i c = search needs
 
 add-i : tie.Need-add-i
-add-i c = omega (arith, row-most (c .args .row) (c .args .dim) (omega arith) (omega arith))
+add-i c = search needs
 
 shared-slice-read-result : tie.Need-shared-slice-read-result
 shared-slice-read-result c = search needs
 
 returns : tie.Need-returns
-unfolding dark
+unfolding darkAt
 returns c = refl
 
 returns-2 : tie.Need-returns-2
-unfolding dark
+unfolding darkAt
 returns-2 c = rw (List·getD-eq-default (c .before .args .modules .now) 0 (c .if1 .left))
 
 pub dark-spec : {M : Type 1} → statement M

@@ -1,25 +1,29 @@
 -- `grid::probe_at` meets its contract, by those of what it calls. Assumes nothing.
+use Prim.Native.Nat.{_/_}
+use native.Mathlib.Omega.{arith}
 use borrow.Author.Needs.{needs}
 use Rattle.grid.specs.Places.{probeAt}
+use Rattle.grid.proofs.Sides.{inward-lies}
 use Rattle.grid.proofs.probe_at.Statement.{statement}
 use Rattle.grid.proofs.probe_at.Tie as tie
 
 place-requires : tie.Need-place-requires
 place-requires c κs = search needs
 
-int-to-float-t7 : tie.Need-int-to-float-t7
-int-to-float-t7 c = search needs
+int-to-float-t6 : tie.Need-int-to-float-t6
+int-to-float-t6 c = search needs
 
-cast-edge-dark : tie.Need-cast-edge-dark
-cast-edge-dark c = search needs
-
-edge-dark-requires : tie.Need-edge-dark-requires
-edge-dark-requires c κs = search needs
+dark-requires : tie.Need-dark-requires
+dark-requires c κs = let start = c .before .before .before in
+    let a = start .args in
+    inward-lies (a .side) (start .pre .1) (a .j / 2) (a .modules .now) (omega arith) (omega arith) .fits
 
 returns : tie.Need-returns
 unfolding probeAt
-returns c = rw (c .before .before .place .ensures, c .edge-dark .ensures)
+returns c = let start = c .before .before .before .before in
+    let a = start .args in
+    let inward = inward-lies (a .side) (start .pre .1) (a .j / 2) (a .modules .now) (omega arith) (omega arith) in
+    rw (c .before .before .place .ensures, c .dark .ensures, inward .dark)
 
 pub probe-at-spec : {M : Type 1} → statement M
-probe-at-spec =
-    tie.close (tie.spec place-requires int-to-float-t7 cast-edge-dark edge-dark-requires returns)
+probe-at-spec = tie.close (tie.spec place-requires int-to-float-t6 dark-requires returns)
