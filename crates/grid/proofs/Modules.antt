@@ -1,8 +1,7 @@
--- Where a module lies among the bytes, and the first n modules one after another. A place of 32-bit numbers fits 64 bits by its factors;
--- what is left of the first n is the next one and what is left behind it. Assumes nothing.
+-- The first n modules one after another: what is left of them is the next one and what is left behind it. Assumes nothing.
 use mathlib.Core.Path.{_≡_, refl, sym, ap, _∙_}
-use Prim.Native.Nat.{ℕ, suc, _+_, _-_, _*_, _≤_, _<_}
-use native.Mathlib.Nat.{mul-le-mul, sub-zero, le-trans}
+use Prim.Native.Nat.{ℕ, suc, _+_, _-_, _≤_, _<_}
+use native.Mathlib.Nat.{sub-zero, le-trans}
 use native.Mathlib.Numerals.{add-one}
 use native.Mathlib.Omega.{arith}
 use mathlib.Core.Bool.{Bool, true, false, _&&_, and-false, and-true, and-assoc}
@@ -12,10 +11,6 @@ use lib.ListN.{length, getD, drop}
 use lib.Seq.{drop-cons}
 use borrow.Author.Tests.{le-leb, leb-true}
 use Rattle.grid.specs.Grids.{bits}
-
--- a row of 32 bits times a dimension of 32 bits leaves room for a column
-pub row-most : (row dim : ℕ) → row ≤ 4294967295 → dim ≤ 4294967295 → row * dim ≤ 18446744065119617025
-row-most row dim p q = mul-le-mul p q
 
 one-less : (n i : ℕ) → i < n → n - i ≡ suc (n - (i + 1))
 one-less n i l = omega arith

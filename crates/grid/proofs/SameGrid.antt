@@ -3,24 +3,18 @@
 -- which are in it where dim is at least 2. Modules past dim × dim are never looked at. Assumes nothing.
 use mathlib.Core.Path.{_≡_, refl, sym, ap, _∙_}
 use Prim.Native.Nat.{ℕ, zero, suc, _+_, _-_, _*_, _≤_, _<_, min}
-use native.Mathlib.Nat.{mul-le-mul-right, suc-mul}
 use native.Mathlib.Omega.{arith}
 use mathlib.Core.List.{List, [], _++_}
 use lib.Dec.{eqb}
 use lib.ListN.{getD, take}
 use lib.Seq.{getD-take}
 use lib.Ieee.{Float}
+use Rattle.pixel.proofs.Places.{place-lt}
 use Rattle.consts.specs.Consts.{room}
 use Rattle.consts.specs.declared.Settings.{Settings}
 use Rattle.grid.specs.Grids.{gridOf, dark, edgeDark}
 use Rattle.grid.specs.Probes.{candidateAt, moduleCandidates, candidatesFrom, candidates, thinned, probesOf}
 use Rattle.grid.specs.declared.Probe.{Probe}
-
--- a module of the grid lies below dim × dim
-place-below : (dim column row : ℕ) → column < dim → row < dim → row * dim + column < dim * dim
-place-below dim column row hc hr =
-    let m : suc row * dim ≤ dim * dim = mul-le-mul-right dim hr in
-    omega (arith, m, suc-mul row dim)
 
 -- lists with the same front are the same at a place in it
 front-same : (n : ℕ) (ms ns : List ℕ) (i : ℕ) → take n ms ≡ take n ns → i < n → getD ms i 0 ≡ getD ns i 0
@@ -31,7 +25,7 @@ module _ (dim : ℕ) (ms ns : List ℕ) (wide : 2 ≤ dim) (same : take (dim * d
   dark-same : (column row : ℕ) → column < dim → row < dim → dark (gridOf dim ms) column row ≡ dark (gridOf dim ns) column row
   unfolding dark
   dark-same column row hc hr =
-      ap (λ (v : ℕ). eqb v 1) (front-same (dim * dim) ms ns (row * dim + column) same (place-below dim column row hc hr))
+      ap (λ (v : ℕ). eqb v 1) (front-same (dim * dim) ms ns (row * dim + column) same (place-lt dim dim column row hc hr))
 
   -- so is a module of an edge, and one behind it
   edge-dark-same : (e m depth : ℕ) → m < dim → depth < dim → edgeDark (gridOf dim ms) e m depth ≡ edgeDark (gridOf dim ns) e m depth

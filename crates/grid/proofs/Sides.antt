@@ -8,10 +8,10 @@ use mathlib.Core.List.{List}
 use lib.Dec.{eqb}
 use lib.ListN.{getD}
 use Rattle.ieee.specs.Floats.{if_then_else_}
+use Rattle.pixel.proofs.Places.{row-most}
 use Rattle.grid.specs.Grids.{gridOf, bySide, dark, edgeDark, borderDark, inwardDark}
 use Rattle.grid.specs.Places.{startOf, strideOf, sideOf, IsSide, darkAt}
 use Rattle.grid.specs.declared.Side.{Side}
-use Rattle.grid.proofs.Modules.{row-most}
 
 -- what holds of each edge holds of the edge at hand
 each-side : {A : Type 0} (e : ℕ) (P : A → ℕ → ℕ → Type 0) {a b c d : A} {i j k l m n o p : ℕ} → P a i m → P b j n → P c k o → P d l p

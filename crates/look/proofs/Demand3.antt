@@ -12,7 +12,7 @@ use lib.ListN.{getD, List·getD-append}
 use Rattle.ieee.specs.Floats.{if_then_else_}
 use Rattle.sampling.specs.Photographs.{Photo, photo, Pixel}
 use Rattle.sampling.specs.declared.Scene.{Scene}
-use Rattle.sampling.proofs.Pixels.{place-lt}
+use Rattle.pixel.proofs.Places.{place-lt}
 use Rattle.sampling.proofs.Shades.{Same}
 use Rattle.sampling.proofs.Inside.{Sized}
 use Rattle.look.specs.Look.{Look, reads}

@@ -15,7 +15,8 @@ use Rattle.ieee.specs.Floats.{if_then_else_}
 use Rattle.sampling.specs.Photographs.{Photo, Pixel, pixel}
 use Rattle.sampling.specs.Marks.{mark}
 use Rattle.sampling.specs.declared.Scene.{Scene}
-use Rattle.sampling.proofs.Pixels.{Each, Inside, place-lt, place-column, place-row}
+use Rattle.pixel.proofs.Places.{place-lt}
+use Rattle.sampling.proofs.Pixels.{Each, Inside, place-column, place-row}
 use Rattle.look.specs.declared.Meter.{Meter}
 use Rattle.look.specs.Look.{Look, reads}
 use Rattle.look.specs.Run.{Runs}

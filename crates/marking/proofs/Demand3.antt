@@ -14,7 +14,8 @@ use Rattle.number.specs.Numbers as number
 use Rattle.ieee.specs.Floats.{if_then_else_}
 use Rattle.consts.specs.declared.Settings.{Settings}
 use Rattle.sampling.specs.Photographs.{Photo, pixel}
-use Rattle.sampling.proofs.Pixels.{Inside, place-lt}
+use Rattle.pixel.proofs.Places.{place-lt}
+use Rattle.sampling.proofs.Pixels.{Inside}
 use Rattle.sampling.proofs.Inside.{Sized, size-checked}
 use Rattle.look.specs.Look.{Look, value}
 use Rattle.look.specs.Sheets.{isRead, bit, sheet, copy}

@@ -1,7 +1,7 @@
 -- Lists of pixels: what holds of each pixel of a list, and where a pixel of the picture lies among rows of w bytes. Assumes nothing.
 use mathlib.Core.Path.{_≡_, ap, _∙_}
-use Prim.Native.Nat.{ℕ, suc, _+_, _*_, _/_, _%_, _≤_, _<_}
-use native.Mathlib.Nat.{mul-add-mod-self-right, mul-add-div-right, mod-eq-of-lt, div-eq-of-lt, mul-comm, add-zero, mul-le-mul-right, suc-mul}
+use Prim.Native.Nat.{ℕ, _+_, _*_, _/_, _%_, _<_}
+use native.Mathlib.Nat.{mul-add-mod-self-right, mul-add-div-right, mod-eq-of-lt, div-eq-of-lt, add-zero}
 use native.Mathlib.Omega.{arith}
 use mathlib.Core.List.{List, [], _∷_, _++_}
 use Rattle.sampling.specs.Photographs.{Pixel}
@@ -25,11 +25,6 @@ each-append P (c ∷ s) t hs ht = (hs .0, each-append P s t (hs .1) ht)
 pub record Inside (w h : ℕ) (c : Pixel) : Type 0 where
   pub across : c .column < w
   pub down : c .row < h
-
-pub place-lt : (w h x y : ℕ) → x < w → y < h → y * w + x < w * h
-place-lt w h x y hx hy =
-    let m : suc y * w ≤ h * w = mul-le-mul-right w hy in
-    omega (arith, m, suc-mul y w, mul-comm w h)
 
 pub place-column : (w x y : ℕ) → x < w → (y * w + x) % w ≡ x
 place-column w x y h = mul-add-mod-self-right y w x ∙ mod-eq-of-lt h

@@ -2,11 +2,10 @@
 -- definition's four, in its order, so the laws only put them together. And two photographs that agree on what a sample reads: it shows nothing
 -- but those bytes. Assumes nothing.
 use mathlib.Core.Path.{_≡_, refl, ap}
-use Prim.Native.Nat.{ℕ, _+_, _*_, _≤_}
-use native.Mathlib.Nat.{mul-le-mul-left, mul-le-mul-right, le-trans}
+use Prim.Native.Nat.{ℕ, _+_, _*_}
+use native.Mathlib.Omega.{arith}
 use mathlib.Core.List.{List, [], _∷_}
 use lib.ListN.{length, set}
-use native.Mathlib.Omega.{arith}
 use lib.Ieee.{Float}
 use Rattle.ieee.specs.Floats.{_⊕_, _⊖_, _⊗_, float}
 use Rattle.sampling.specs.Photographs.{Photo, Pixel}
@@ -16,10 +15,6 @@ use Rattle.sampling.specs.declared.Spot.the-variants.{Off, Edging, Among
 use Rattle.sampling.specs.Sampling.{cell, touched, blend, shade}
 use Rattle.sampling.specs.Marks.{mark, Shows}
 use Rattle.sampling.proofs.Pixels.{Each}
-
--- a row of 32 bits times a stride of 32 bits fits 64 bits, with a column of 32 bits added
-pub row-most : (y stride : ℕ) → y ≤ 4294967295 → stride ≤ 4294967295 → y * stride ≤ 18446744065119617025
-row-most y stride p q = le-trans (mul-le-mul-right stride p) (mul-le-mul-left 4294967295 q)
 
 -- ---- four pixels
 

@@ -3,8 +3,8 @@ use Prim.Native.Nat.{_*_}
 use native.Mathlib.Omega.{arith}
 use borrow.Author.Needs.{needs}
 use borrow.Author.Tests.{le-leb, lt-leb}
+use Rattle.pixel.proofs.Places.{row-most}
 use Rattle.grid.specs.Grids.{goodGrid}
-use Rattle.grid.proofs.Modules.{row-most}
 use Rattle.grid.proofs.good_grid.Statement.{statement}
 use Rattle.grid.proofs.good_grid.Tie as tie
 

@@ -2,8 +2,8 @@
 use borrow.Author.Needs.{needs}
 use borrow.Author.Tests.{ne-eqb}
 use native.Mathlib.Omega.{arith}
+use Rattle.pixel.proofs.Places.{row-most}
 use Rattle.grid.specs.Places.{startOf}
-use Rattle.grid.proofs.Modules.{row-most}
 use Rattle.grid.proofs.start.Statement.{statement}
 use Rattle.grid.proofs.start.Tie as tie
 

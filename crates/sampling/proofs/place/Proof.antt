@@ -1,6 +1,6 @@
 -- `place` meets its contract: numbers of 32 bits, so that 64 bits hold their product and a sum. Assumes nothing.
 use native.Mathlib.Omega.{arith}
-use Rattle.sampling.proofs.Shades.{row-most}
+use Rattle.pixel.proofs.Places.{row-most}
 use borrow.Author.Needs.{needs}
 use Rattle.sampling.proofs.place.Statement.{statement}
 use Rattle.sampling.proofs.place.Tie as tie

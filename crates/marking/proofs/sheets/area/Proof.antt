@@ -1,7 +1,7 @@
 -- `area` meets its contract: two numbers of 32 bits have a product of 64. Assumes nothing.
 use borrow.Author.Needs.{needs}
 use native.Mathlib.Omega.{arith}
-use Rattle.sampling.proofs.Shades.{row-most}
+use Rattle.pixel.proofs.Places.{row-most}
 use Rattle.marking.proofs.sheets.area.Statement.{statement}
 use Rattle.marking.proofs.sheets.area.Tie as tie
 

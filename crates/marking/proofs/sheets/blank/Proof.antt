@@ -5,7 +5,7 @@ use native.Mathlib.Nat.{zero-mul}
 use native.Mathlib.Omega.{arith}
 use borrow.Author.Needs.{needs}
 use lib.ListN.{length}
-use Rattle.sampling.proofs.Shades.{row-most}
+use Rattle.pixel.proofs.Places.{row-most}
 use Rattle.marking.proofs.Blanking.{RowsMade, none-made, row-made, all-made, next-row, row-in-photograph, row-in-area}
 use Rattle.marking.proofs.sheets.blank.Statement.{statement}
 use Rattle.marking.proofs.sheets.blank.Tie as tie
