@@ -1,4 +1,4 @@
--- What a sample shows and marks: where a pixel lies among the bytes, what four pixels come to, and each case of a spot. The four reads are the
+-- What a sample shows and marks: what four pixels come to, and each case of a spot. The four marks and the four bytes are the
 -- definition's four, in its order, so the laws only put them together. And two photographs that agree on what a sample reads: it shows nothing
 -- but those bytes. Assumes nothing.
 use mathlib.Core.Path.{_≡_, refl, ap}
