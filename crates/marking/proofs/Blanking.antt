@@ -1,25 +1,39 @@
--- The copy as it is made after a sheet: row after row of it is the table that the definition says, and each row lies in the photograph, in the sheet and in the copy.
--- Assumes nothing.
-use mathlib.Core.Path.{_≡_, sym, ap, ap₂, _∙_}
+-- The copy as it is made after a sheet: parts of a row, written one after another, are the row, and zeros where the sheet has no mark; row after row is the table that the definition
+-- says, and each row lies in the photograph, in the sheet and in the copy. Assumes nothing.
+use mathlib.Core.Path.{_≡_, refl, sym, ap, ap₂, _∙_}
 use Prim.Native.Nat.{ℕ, zero, suc, _+_, _-_, _*_, _/_, _%_, _≤_, _<_}
-use native.Mathlib.Nat.{le-trans, mul-comm, mul-le-mul-right, suc-mul, zero-mul, add-zero}
+use native.Mathlib.Nat.{le-trans, mul-comm, mul-le-mul-right, suc-mul, zero-mul, add-zero, zero-add, add-assoc, add-suc, eq-or-lt-of-le}
 use native.Mathlib.Numerals.{add-one}
 use native.Mathlib.Omega.{arith}
+use mathlib.Core.Logic.{⊎-elim}
 use mathlib.Core.Bool.{true}
 use mathlib.Core.List.{List, _++_}
-use lib.ListN.{length, getD, set, drop}
+use lib.Bits.{bitOr, or-add-and, and-le-l, and-le-r}
+use lib.ListN.{length, getD, set, drop, replicate}
+use borrow.Author.Fill.{fill-more}
 use Rattle.sampling.specs.Photographs.{photo, goodPhotograph}
 use Rattle.sampling.proofs.Pixels.{place-column, place-row}
 use Rattle.sampling.proofs.Inside.{photograph-checked}
 use Rattle.look.specs.Sheets.{table}
 use Rattle.look.proofs.Sheets.{table-more}
-use Rattle.marking.specs.Blanking.{kept, written, blanked}
+use Rattle.marking.specs.Blanking.{kept, keptAt, written, blanked}
 
 -- ---- bytes written one after another
 
 pub written-more : (to : ℕ) (f : ℕ → ℕ) (n : ℕ) (c : List ℕ) → set (written to f n c) (to + n) (f n) ≡ written to f (n + 1) c
 unfolding written
 written-more to f n c = sym (ap (λ (k : ℕ). written to f k c) (add-one n))
+
+written-same : (to : ℕ) (f g : ℕ → ℕ) (n : ℕ) (c : List ℕ) → ((x : ℕ) → x < n → f x ≡ g x) → written to f n c ≡ written to g n c
+unfolding written
+written-same to f g zero c same = refl
+written-same to f g (suc n) c same = ap₂ (λ (l : List ℕ) (v : ℕ). set l (to + n) v) (written-same to f g n c (λ x b. same x (omega arith))) (same n (omega arith))
+
+-- zeros over the front of a list
+pub written-zeros : (n : ℕ) (c : List ℕ) → n ≤ length c → written 0 (λ (x : ℕ). 0) n c ≡ replicate n 0 ++ drop n c
+unfolding written
+written-zeros zero c fit = refl
+written-zeros (suc n) c fit = rw (written-zeros n c (omega arith), zero-add n, fill-more n 0 c (omega arith), add-one n)
 
 -- behind a table's front they are more of the table
 pub written-table : (to : ℕ) (f g : ℕ → ℕ) (n : ℕ) (c : List ℕ) → to + n ≤ length c → ((x : ℕ) → x < n → f x ≡ g (to + x))
@@ -34,6 +48,40 @@ written-table to f g (suc n) c fit same =
   where
     next : to + n + 1 ≡ to + suc n
     next = omega arith
+
+-- ---- bytes of the copy
+
+-- b bytes behind the first a
+kept-then : (bytes : List ℕ) (from : ℕ) (s : List ℕ) (to a b : ℕ) (c : List ℕ)
+    → written (to + a) (keptAt bytes (from + a) s (to + a)) b (written to (keptAt bytes from s to) a c) ≡ written to (keptAt bytes from s to) (a + b) c
+unfolding written
+kept-then bytes from s to a zero c = ap (λ (k : ℕ). written to (keptAt bytes from s to) k c) (sym (add-zero a))
+kept-then bytes from s to a (suc b) c = rw (kept-then bytes from s to a b c, add-assoc to a b, add-assoc from a b, add-suc a b)
+
+pub kept-further : (bytes : List ℕ) (from : ℕ) (s : List ℕ) (to a b : ℕ) (c : List ℕ) {n : ℕ} {d : List ℕ} → a + b ≡ n → d ≡ written to (keptAt bytes from s to) a c
+    → written (to + a) (keptAt bytes (from + a) s (to + a)) b d ≡ written to (keptAt bytes from s to) n c
+kept-further bytes from s to a b c together first = rw (first, kept-then bytes from s to a b c, together)
+
+-- ---- bytes without a mark
+
+-- n bytes of a sheet, from a place on, are 0
+abbrev pub Unmarked : List ℕ → ℕ → ℕ → Type 0
+Unmarked s at n = (x : ℕ) → x < n → getD s (at + x) 0 ≡ 0
+
+-- one more, where all their bits together are 0
+pub unmarked-more : (s : List ℕ) (at i any : ℕ) → (any ≡ 0 → Unmarked s at i) → bitOr any (getD s (at + i) 0) ≡ 0 → Unmarked s at (i + 1)
+unmarked-more s at i any before none x below = ⊎-elim (λ (p : x ≡ i). rw p (bits .1)) (λ (p : x < i). before (bits .0) x p) (eq-or-lt-of-le (omega arith))
+  where
+    byte : ℕ
+    byte = getD s (at + i) 0
+
+    bits : (any ≡ 0) × (byte ≡ 0)
+    bits = (omega (arith, or-add-and any byte, and-le-r any byte), omega (arith, or-add-and any byte, and-le-l any byte))
+
+-- there the copy has zeros
+pub kept-none : (bytes : List ℕ) (from : ℕ) (s : List ℕ) (to n : ℕ) (c : List ℕ) → Unmarked s to n
+    → written to (λ (x : ℕ). 0) n c ≡ written to (keptAt bytes from s to) n c
+kept-none bytes from s to n c unmarked = written-same to (λ (x : ℕ). 0) (keptAt bytes from s to) n c (λ x b. rw (unmarked x b))
 
 -- ---- where a row lies
 
@@ -66,16 +114,16 @@ module _ (w h stride : ℕ) (bytes s c : List ℕ) where
   none-made = sym (ap (λ (k : ℕ). table k byte ++ drop k c) (zero-mul w))
 
   pub row-made : (y : ℕ) {from to : ℕ} {d d′ : List ℕ} → y < h → w * h ≤ length c → from ≡ y * stride → to ≡ y * w → RowsMade y d
-      → d′ ≡ written to (λ (x : ℕ). kept (getD s (to + x) 0) (getD bytes (from + x) 0)) w d → RowsMade (y + 1) d′
+      → d′ ≡ written to (keptAt bytes from s to) w d → RowsMade (y + 1) d′
   row-made y {from} {to} {d} below long starts places made wrote =
       wrote
-      ∙ ap₂ (λ (a b : ℕ). written b (λ (x : ℕ). kept (getD s (b + x) 0) (getD bytes (a + x) 0)) w d) starts places
+      ∙ ap₂ (λ (a b : ℕ). written b (keptAt bytes a s b) w d) starts places
       ∙ ap (λ (l : List ℕ). written (y * w) row w l) made
       ∙ written-table (y * w) row byte w c (le-trans (row-in-area w h y below) long) (λ x b. rw (place-column w x y b, place-row w x y b))
       ∙ ap (λ (k : ℕ). table k byte ++ drop k c) (next-row y w)
     where
       row : ℕ → ℕ
-      row x = kept (getD s (y * w + x) 0) (getD bytes (y * stride + x) 0)
+      row = keptAt bytes (y * stride) s (y * w)
 
   pub all-made : {y : ℕ} {d : List ℕ} → y ≡ h → RowsMade y d → d ≡ blanked w h (photo bytes stride) s ++ drop (w * h) c
   unfolding blanked

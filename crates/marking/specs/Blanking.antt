@@ -14,6 +14,10 @@ use Rattle.look.specs.Sheets as Sheets
 abbrev pub kept : (mark byte : ℕ) → ℕ
 kept mark byte = if eqb mark 1 then byte else 0
 
+-- and for byte x behind place `from` of the photograph, with its mark behind place `to` of the sheet
+abbrev pub keptAt : List ℕ → ℕ → List ℕ → ℕ → ℕ → ℕ
+keptAt bytes from s to x = kept (getD s (to + x) 0) (getD bytes (from + x) 0)
+
 -- n bytes written from a place on, one after another
 unfoldable pub written : ℕ → (ℕ → ℕ) → ℕ → List ℕ → List ℕ
 written from f zero c = c

@@ -169,7 +169,7 @@ fn marking_run(
     requires { ⌜ (goodSize (scene .width) (scene .height) ≡ true) × (goodPhotograph (scene .width) (scene .height) stride (length (now bytes)) ≡ true) × (scene .width * scene .height ≤ length (now sheet)) × (scene .width * scene .height ≤ length (now copy)) ⌝ }
     ensures { λ r. ⌜ RunsMarked scene (photo (now (bytes .entry)) stride) (rounds settings (gridOf dim (now (modules .entry))) inverted q) r (now (sheet .entry)) (now (sheet .exit)) (now (copy .entry)) (now (copy .exit)) ⌝ }
 {
-    sheets::clear(sheet, sheets::area(scene.width, scene.height));
+    sheets::clear(sheet, 0, sheets::area(scene.width, scene.height));
     let meter = Meter { tried: 0 };
     let run = rounds::refine_rounds(
         settings,

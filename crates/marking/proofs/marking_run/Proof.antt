@@ -1,9 +1,9 @@
 -- `marking_run` meets its contract: the sheet is cleared, the rounds ran, the copy was made after the sheet. Assumes nothing.
 use Prim.Native.Nat.{ℕ}
 use mathlib.Core.Path.{ap, _∙_}
-use mathlib.Core.List.{_++_}
-use lib.ListN.{replicate, drop}
 use borrow.Author.Needs.{needs}
+use Rattle.marking.specs.Blanking.{written}
+use Rattle.marking.proofs.Blanking.{written-zeros}
 use Rattle.marking.proofs.Calls.{ran-marked}
 use Rattle.marking.proofs.marking_run.Statement.{statement}
 use Rattle.marking.proofs.marking_run.Tie as tie
@@ -31,7 +31,8 @@ returns c =
     let ran = c .before .before .before .before .before .before .before .before in
     let clear = ran .before .before .before .before in
     let start = clear .before .before .before .before .before .before .before in
-    ran-marked _ _ _ _ _ (start .pre .0) (clear .clear .ensures ∙ ap (λ (n : ℕ). replicate n 0 ++ drop n (start .args .sheet .now)) (clear .before .area .ensures)) (ran .refine-rounds .ensures) (c .before .before .before .blank .ensures)
+    let cleared = clear .clear .ensures ∙ ap (λ (n : ℕ). written 0 (λ (x : ℕ). 0) n (start .args .sheet .now)) (clear .before .area .ensures) ∙ written-zeros _ (start .args .sheet .now) (start .pre .2) in
+    ran-marked _ _ _ _ _ (start .pre .0) cleared (ran .refine-rounds .ensures) (c .before .before .before .blank .ensures)
 
 pub marking-run-spec : {M : Type 1} → statement M
 marking-run-spec =
