@@ -14,7 +14,7 @@ bool ieee_is_finite(double);
 uint32_t ieee_whole_part(double);
 
 enum { COUNT = 1 << 14, ROUNDS = 400 };
-static double roots[COUNT], mixed[COUNT], answers[COUNT];
+static double roots[COUNT], mixed[COUNT], places[COUNT], answers[COUNT];
 static volatile uint64_t zero = 0;
 static volatile double sink;
 
@@ -88,12 +88,19 @@ static double compare(const char *name, call *proved, call *other, const double 
 
 static bool same(double a, double b) { return (isnan(a) && isnan(b)) || bits(a) == bits(b); }
 
-// whether the two agree on random patterns
+// a coordinate of a picture, at times a whole number
+static double place(void) {
+    double x = (double)(draw() >> 11) * 0x1p-39;
+    return draw() % 16 ? x : floor(x);
+}
+
+// whether the two agree on random patterns, and on the whole part of places
 static bool agree(int count) {
     for (int i = 0; i < count; i++) {
-        double x = value(draw());
-        if (!same(ieee_sqrt(x), c_sqrt(x)) || !same(ieee_floor(x), c_floor(x)) || !same(ieee_ceil(x), c_ceil(x)) || !same(ieee_abs(x), c_abs(x))) {
-            printf("they differ at %016llx\n", (unsigned long long)bits(x));
+        double x = value(draw()), y = place();
+        if (!same(ieee_sqrt(x), c_sqrt(x)) || !same(ieee_floor(x), c_floor(x)) || !same(ieee_ceil(x), c_ceil(x)) || !same(ieee_abs(x), c_abs(x))
+            || p_whole_part(x) != c_whole_part(x) || p_whole_part(y) != c_whole_part(y)) {
+            printf("they differ at %016llx or at %016llx\n", (unsigned long long)bits(x), (unsigned long long)bits(y));
             return false;
         }
     }
@@ -102,9 +109,10 @@ static bool agree(int count) {
 
 int main(void) {
     for (int i = 0; i < COUNT; i++) {
-        // any normal value above zero; and for the rest either sign, 2^-10 to 2^60
+        // any normal value above zero; for the rest either sign, 2^-10 to 2^60; and what the sampler asks about
         roots[i] = value(draw() >> 12 | (draw() % 2046 + 1) << 52);
         mixed[i] = value(draw() >> 12 | (draw() % 70 + 1013) << 52 | (draw() & UINT64_C(1) << 63));
+        places[i] = place();
     }
     printf("            throughput, ns   ratio    chain, ns        ratio\n");
     printf("            ieee   other              ieee   other\n");
@@ -115,9 +123,10 @@ int main(void) {
     compare("max", p_max, c_max, mixed);
     compare("is_finite", p_is_finite, c_is_finite, mixed);
     compare("whole_part", p_whole_part, c_whole_part, mixed);
+    compare("  of places", p_whole_part, c_whole_part, places);
     compare("(no call)", nothing, nothing, mixed);
     bool agreed = agree(20000000);
-    printf("20,000,000 random patterns: %s\n", agreed ? "no answer differs" : "see above");
+    printf("20,000,000 random patterns and places: %s\n", agreed ? "no answer differs" : "see above");
     printf("a root takes at most 40 ns: %s\n", root <= 40 ? "yes" : "NO");
     return agreed && root <= 40 ? 0 : 1;
 }

@@ -7,8 +7,8 @@ ghost use lib.ListN.{drop, getD, length};
 ghost use Rattle.sampling.specs.Photographs.{goodPhotograph, photo};
 ghost use Rattle.marking.specs.Blanking.{blanked, kept as keptByte, keptAt, written};
 
-// How many bytes of a row are tested, and copied or zeroed, together: four registers of 16. Loops over
-// a block end at this number: with a length known only at run time they were slower than no blocks.
+// How many bytes of a row are tested, and copied or zeroed, together: four registers of 16. A constant,
+// since blocks of a length known only at run time, tried in C, were slower than none.
 const BLOCK: usize = 64;
 
 // How many bytes a sheet or a copy of this size has.
