@@ -8,13 +8,13 @@ use native.Mathlib.Omega.{arith}
 use native.Mathlib.Nat.{le-trans, min-le-left, min-le-right}
 use borrow.Author.Tests.{ltb-false}
 use lib.Dec.{T, ltb, eqb}
-use lib.ListN.{length, set, length-take, length-append}
+use lib.ListN.{length, set, take, length-take, length-append}
 use lib.Ieee.{Float, binary64, fits}
 use lib.Ieee.Fits.{add-fits, div-fits}
 use lib.Ieee.Bits.{ofBits-fits}
 use Rattle.ieee.specs.Floats.{if_then_else_, float, _≺_, _⊖_, _⊗_, _⊘_, f0, f1e-9}
 use Rattle.ieee.specs.Parts.{isFinite, magnitude}
-use Rattle.consts.specs.Consts.{defaults, room}
+use Rattle.consts.specs.Consts.{room}
 use Rattle.consts.specs.declared.Settings.{Settings}
 use Rattle.pixel.specs.Pixels.{source, toSource, corner}
 use Rattle.pixel.specs.declared.WorkingPixel.{WorkingPixel}
@@ -39,15 +39,18 @@ use Rattle.look.proofs.Always.{Always, ends, always-value, always-bind, always-
 use Rattle.profile.specs.declared.Located.{Located}
 use Rattle.profile.specs.declared.Located.the-variants.{Found, NoEdge}
 use Rattle.grid.specs.declared.Probe.{Probe}
-use Rattle.grid.specs.Grids.{Grid}
+use Rattle.grid.specs.Grids.{Grid, gridOf}
 use Rattle.grid.specs.Probes.{probesOf, thinned}
+use Rattle.edge.specs.declared.Plan.{Plan}
+use Rattle.edge.specs.declared.Side.{Side}
 use Rattle.edge.specs.Edge.{probed, plus, points, fitted, edgeLength, edge}
 use Rattle.rounds.specs.declared.Answer.{Answer}
 use Rattle.rounds.specs.declared.Edges.{Edges}
-use Rattle.rounds.specs.Rounds.{refused, answered, noEdges, joined, onward, edgesFrom, lineIn, statIn, validCount, crossedAt, orElse, refinedCorners, roundEnd, mappedRound, round, isWeak, further, rounds}
-use Rattle.refine.specs.Refine.{Request, Photograph, entry, sceneOf, shown, sourceCorners, refinement, result, refine}
+use Rattle.rounds.specs.Rounds.{refused, answered, noEdges, joined, onward, sideOf, edgesFrom, lineIn, statIn, validCount, crossedAt, orElse, refinedCorners, roundEnd, mappedRound, round, isWeak, further, rounds}
+use Rattle.refine.specs.declared.Request.{Request}
+use Rattle.refine.specs.Refine.{Photograph, cells, entry, planOf, sceneOf, shown, sourceCorners, refinement, result, refine}
 use Rattle.number.specs.Numbers as number
-use Rattle.cards.specs.JobCard.{goodCard, cornersOf, requestFrom, requestOf, photographOf, jobAnswer}
+use Rattle.cards.specs.JobCard.{goodCard, cornersOf, requestFrom, requestOf, modulesOf, photographOf, jobAnswer}
 use Rattle.cards.proofs.Parts.{by-test}
 
 -- ---- four of a kind
@@ -111,13 +114,13 @@ plus-one got NoEdge = omega arith
 plus-one got (Found p) = omega (arith, length-append got (p ∷ []))
 
 -- no more points than probes
-few-points : (s : Settings) (m : PerspectiveTransform) (dim : ℕ) (inverted : Bool) (e : ℕ) (ps : List Probe) (got : List EdgePoint)
-    → Always (λ (l : List EdgePoint). length l ≤ length got + length ps) (points s m dim inverted e ps got)
+few-points : (p : Plan) (side : Side) (ps : List Probe) (got : List EdgePoint)
+    → Always (λ (l : List EdgePoint). length l ≤ length got + length ps) (points p side ps got)
 unfolding points
-few-points s m dim inverted e [] got = ends {a = got} (omega arith)
-few-points s m dim inverted e (p ∷ ps) got =
-    always-after (probed s m dim inverted e p)
-    (λ r. always-weaker (few-points s m dim inverted e ps (plus got r)) (λ l h. omega (arith, plus-one got r)))
+few-points p side [] got = ends {a = got} (omega arith)
+few-points p side (at ∷ ps) got =
+    always-after (probed p side at)
+    (λ r. always-weaker (few-points p side ps (plus got r)) (λ l h. omega (arith, plus-one got r)))
 
 data EdgeBelow : EdgeFit → Type 0 where
   stopped : {n : ℕ} → EdgeBelow (Stops n)
@@ -154,16 +157,16 @@ module _ (s : Settings) (probed : ℕ) (few : probed < 256) where
         (counted (record { probed = few; fit = omega arith; dropped = omega arith }))
         (first-below (fitPoints ps))
 
-edge-below : (s : Settings) (m : PerspectiveTransform) (g : Grid) (inverted : Bool) (e : ℕ) (a b : SourcePixel) → Always EdgeBelow (edge s m g inverted e a b)
+edge-below : (p : Plan) (ms : List ℕ) (side : Side) → Always EdgeBelow (edge p ms side)
 unfolding fitted edge
-edge-below s m g inverted e a b =
-    let len = edgeLength a b in
-    let ps = probesOf s g e in
-    let few = few-probes s g e in
+edge-below p ms side =
+    let len = edgeLength (side .from) (side .to) in
+    let ps = probesOf (p .settings) (gridOf (p .dim) ms) (side .edge) in
+    let few = few-probes (p .settings) (gridOf (p .dim) ms) (side .edge) in
     either (Always EdgeBelow) (len ≺ f1e-9)
     (ends (counted none-below))
-    (always-bind (few-points s m (g .dim) inverted e ps [])
-    (λ got most. ends (fit-below s (length ps) (omega arith) (len ⊘ float (g .dim)) got (omega arith))))
+    (always-bind (few-points p side ps [])
+    (λ got most. ends (fit-below (p .settings) (length ps) (omega arith) (len ⊘ float (p .dim)) got (omega arith))))
 
 -- ---- the edges of a round
 
@@ -176,12 +179,12 @@ joined-sound e got _ h stopped = h
 joined-sound e got _ h (counted below) = four-set e h below
 joined-sound e got _ h (counted-line below) = four-set e h below
 
-module _ (s : Settings) (g : Grid) (inverted : Bool) where
-  edges-sound : (m : PerspectiveTransform) (q : List SourcePixel) (n e : ℕ) (got : Edges) → EdgesSound got → Always EdgesSound (edgesFrom s m q g inverted n e got)
+module _ (p : Plan) (ms : List ℕ) where
+  edges-sound : (m : PerspectiveTransform) (q : List SourcePixel) (n e : ℕ) (got : Edges) → EdgesSound got → Always EdgesSound (edgesFrom p ms m q n e got)
   unfolding edgesFrom onward
   edges-sound m q zero e got h = ends {a = got} h
   edges-sound m q (suc n) e got h =
-      always-bind (edge-below s m g inverted e (corner q e) (corner q ((e + 1) % 4)))
+      always-bind (edge-below p ms (sideOf m q e))
       (λ f below.
       let next = joined-sound e got f h below in
       either (Always EdgesSound) (eqb (joined e got f .number) number.answer) (edges-sound m q n (suc e) (joined e got f) next) (ends {a = joined e got f} next))
@@ -235,29 +238,29 @@ round-end-sound q es corners h =
 
 -- ---- the rounds
 
-module _ (s : Settings) (g : Grid) (inverted : Bool) where
-  mapped-sound : (q : List SourcePixel) (m : Mapped) → Four Fits q → Always Sound (mappedRound s q g inverted m)
+module _ (p : Plan) (ms : List ℕ) where
+  mapped-sound : (q : List SourcePixel) (m : Mapped) → Four Fits q → Always Sound (mappedRound p ms q m)
   unfolding mappedRound noEdges
   mapped-sound q NoMap h = ends (refused-sound _)
   mapped-sound q (By m) h =
-      always-bind (edges-sound s g inverted m q 4 0 noEdges (four-of none-below none-below none-below none-below))
+      always-bind (edges-sound p ms m q 4 0 noEdges (four-of none-below none-below none-below none-below))
       (λ es k. ends (round-end-sound q es h k))
 
-  round-sound : (q : List SourcePixel) → Four Fits q → Always Sound (round s g inverted q)
+  round-sound : (q : List SourcePixel) → Four Fits q → Always Sound (round p ms q)
   unfolding round
   round-sound q h = mapped-sound q (squareToQuad q) h
 
-  further-sound : (n : ℕ) (best : Answer) → Sound best → Always Sound (further s g inverted n best)
+  further-sound : (n : ℕ) (best : Answer) → Sound best → Always Sound (further p ms n best)
   unfolding further
   further-sound zero best h = ends h
   further-sound (suc n) best h =
       always-bind (round-sound (best .refined .corners) (h .corners))
       (λ next k. either (Always Sound) (isWeak next) (ends h) (either (Always Sound) (eqb (next .number) number.answer) (further-sound n next k) (ends k)))
 
-  rounds-sound : (q : List SourcePixel) → Four Fits q → Always Sound (rounds s g inverted q)
+  rounds-sound : (q : List SourcePixel) → Four Fits q → Always Sound (rounds p ms q)
   unfolding rounds
   rounds-sound q h =
-      always-bind (round-sound q h) (λ first k. either (Always Sound) (eqb (first .number) number.answer) (further-sound (s .rounds - 1) first k) (ends k))
+      always-bind (round-sound q h) (λ first k. either (Always Sound) (eqb (first .number) number.answer) (further-sound (p .settings .rounds - 1) first k) (ends k))
 
 -- ---- the refinement, and a job
 
@@ -268,14 +271,14 @@ source-fits sx sy c = record { x = div-fits binary64 (c .0) sx; y = div-fits bin
 sources-fit : (sx sy : Float) (cs : List WorkingPixel) → Four (λ (_ : WorkingPixel). Unit {0}) cs → Four Fits (map (toSource sx sy) cs)
 sources-fit sx sy _ (four-of {a} {b} {c} {d} _ _ _ _) = four-of (source-fits sx sy a) (source-fits sx sy b) (source-fits sx sy c) (source-fits sx sy d)
 
-pub refine-sound : (s : Settings) (r : Request) (p : Photograph) → Four (λ (_ : WorkingPixel). Unit {0}) (r .corners) → Sound (refine s r p)
+pub refine-sound : (r : Request) (ms : List ℕ) (p : Photograph) → Four (λ (_ : WorkingPixel). Unit {0}) (r .corners) → Sound (refine r ms p)
 unfolding refine result refinement sourceCorners
-refine-sound s r p four =
-    either Sound (eqb (entry r p) number.answer)
-    (always-value (sceneOf r) (shown p) (rounds-sound s (r .grid) (r .inverted) (sourceCorners r) (sources-fit (r .sx) (r .sy) (r .corners) four)))
-    (refused-sound (entry r p))
+refine-sound r ms p four =
+    either Sound (eqb (entry r ms p) number.answer)
+    (always-value (sceneOf r) (shown p) (rounds-sound (planOf r) (take (cells r) ms) (sourceCorners r) (sources-fit (r .sx) (r .sy) (r .corners) four)))
+    (refused-sound (entry r ms p))
 
 pub job-sound : (card : List ℕ) → Sound (jobAnswer card)
 unfolding jobAnswer requestOf requestFrom cornersOf
 job-sound card =
-    either Sound (goodCard card) (refine-sound defaults (requestOf card) (photographOf card) (four-of tt tt tt tt)) (refused-sound number.card)
+    either Sound (goodCard card) (refine-sound (requestOf card) (modulesOf card) (photographOf card) (four-of tt tt tt tt)) (refused-sound number.card)

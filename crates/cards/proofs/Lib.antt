@@ -2,7 +2,6 @@
 pub mod Bytes
 pub mod Walks
 pub mod Parts
-pub mod Asked
 pub mod Marked
 pub mod Writes
 pub mod Buffers

@@ -4,12 +4,12 @@ use mathlib.Core.Bool.{true, false}
 use mathlib.Core.Path.{_≡_}
 use mathlib.Core.List.{List}
 use Rattle.number.specs.Numbers as number
-use Rattle.consts.specs.Consts.{defaults}
 use Rattle.rounds.specs.declared.Answer.{Answer}
 use Rattle.rounds.specs.Rounds.{refused}
-use Rattle.refine.specs.Refine.{Request, Photograph}
+use Rattle.refine.specs.declared.Request.{Request}
+use Rattle.refine.specs.Refine.{photograph}
 use Rattle.marking.specs.Marking.{Marks}
-use Rattle.cards.specs.JobCard.{goodCard, requestOf, photographOf}
+use Rattle.cards.specs.JobCard.{goodCard, fieldPart, requestOf, modulesOf, strideOf}
 use Rattle.cards.specs.JobMarking.{jobMarking, jobSheet, jobCopy, JobMarks}
 
 module _ (card : List ℕ) (a : Answer) (s c : List ℕ) where
@@ -17,11 +17,11 @@ module _ (card : List ℕ) (a : Answer) (s c : List ℕ) where
   unfolding jobMarking jobSheet jobCopy
   malformed-marks bad is = record { answer = rw bad is; sheet = rw bad; copy = rw bad }
 
-  pub asked-marks : (r : Request) (p : Photograph) (s′ c′ : List ℕ) → goodCard card ≡ true → r ≡ requestOf card → p ≡ photographOf card
-      → Marks defaults r p a s s′ c c′ → JobMarks card a s s′ c c′
+  pub asked-marks : (r : Request) (ms bytes : List ℕ) (stride : ℕ) (s′ c′ : List ℕ) → goodCard card ≡ true → r ≡ requestOf card → ms ≡ modulesOf card
+      → bytes ≡ fieldPart card 2 → stride ≡ strideOf card → Marks r ms (photograph bytes stride) a s s′ c c′ → JobMarks card a s s′ c c′
   unfolding jobMarking jobSheet jobCopy
-  asked-marks r p s′ c′ good asked shown ran = record {
-    answer = rw (good, ← asked, ← shown) (ran .answer);
-    sheet = rw (good, ← asked, ← shown) (ran .sheet);
-    copy = rw (good, ← asked, ← shown) (ran .copy);
+  asked-marks r ms bytes stride s′ c′ good asked grid lies rows ran = record {
+    answer = rw (good, ← asked, ← grid, ← lies, ← rows) (ran .answer);
+    sheet = rw (good, ← asked, ← grid, ← lies, ← rows) (ran .sheet);
+    copy = rw (good, ← asked, ← grid, ← lies, ← rows) (ran .copy);
   }

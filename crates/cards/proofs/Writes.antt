@@ -2,11 +2,11 @@
 -- taken it. So a loop's invariant and a chain of calls are the same record, and each piece is one law. Assumes nothing.
 use Prim.Native.Nat.{ℕ, zero, suc, _+_, _-_, _*_, _/_, _%_, _≤_, _<_}
 use mathlib.Core.Path.{_≡_, refl, sym, ap, _∙_}
-use mathlib.Core.List.{List, [], _∷_, _++_, map, append-assoc}
+use mathlib.Core.List.{List, [], _∷_, _++_, append-assoc}
 use native.Mathlib.Omega.{arith}
 use native.Mathlib.Numerals.{add-one}
 use native.Mathlib.Nat.{add-suc, suc-add, add-zero, mul-suc, mul-zero}
-use lib.ListN.{length, drop, getD, set, length-append, length-map}
+use lib.ListN.{length, drop, getD, set, length-append}
 use lib.Seq.{drop-cons, drop-length, sets, sets-eq, length-sets}
 use lib.Ieee.{Float, binary64, toBits}
 use Rattle.fit.specs.declared.EdgeStat.{EdgeStat}
@@ -129,10 +129,6 @@ pub stat-bytes : (e : EdgeStat)
     → statBytes (e ∷ []) ≡ bytesOf 1 (e .«points_probed») ++ (bytesOf 1 (e .«points_fit») ++ (bytesOf 1 (e .«dropped_outliers») ++ flagBytes (e .valid ∷ [])))
 unfolding statBytes bytesOf flagBytes
 stat-bytes e = refl
-
--- what is known of an array of structs, said of its list
-pub length-mapped : {X Y : Type 0} (f : X → Y) (l : List X) (n : ℕ) → length (map f l) ≡ n → length l ≡ n
-length-mapped f l n e = sym (length-map l f) ∙ e
 
 -- ---- the result card, as it is written: three headers, each with its contents behind it
 

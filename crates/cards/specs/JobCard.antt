@@ -17,7 +17,8 @@ use Rattle.sampling.specs.declared.View.{View}
 use Rattle.sampling.specs.declared.View.the-variants.{Plain, Calibrated}
 use Rattle.rounds.specs.declared.Answer.{Answer}
 use Rattle.rounds.specs.Rounds.{refused}
-use Rattle.refine.specs.Refine.{Request, Photograph, refine}
+use Rattle.refine.specs.declared.Request.{Request}
+use Rattle.refine.specs.Refine.{Photograph, refine}
 use Rattle.cards.specs.Fields.{byteAt, numberAt, floatAt}
 
 -- ---- where the fields lie
@@ -118,30 +119,33 @@ unfoldable pub requestFrom : (size grid scale corners polarity : List ℕ) → V
 requestFrom size grid scale corners polarity view = record {
   width = numberAt 2 size 0;
   height = numberAt 2 size 2;
-  grid = record { dim = byteAt grid 0; modules = drop 1 grid };
+  dim = byteAt grid 0;
   sx = floatAt scale 0;
   sy = floatAt scale 8;
   corners = cornersOf corners;
   inverted = eqb (byteAt polarity 0) 1;
   view = view;
+  settings = defaults;
 }
-
--- from the contents of the fields 1 and 2
-unfoldable pub photographFrom : (size photograph : List ℕ) → Photograph
-photographFrom size photograph = record { bytes = photograph; stride = numberAt 2 size 4 }
 
 unfoldable pub requestOf : List ℕ → Request
 requestOf card =
     requestFrom (fieldPart card 1) (fieldPart card 3) (fieldPart card 4) (fieldPart card 5) (fieldPart card 6) (viewOf card)
 
-unfoldable pub photographOf : List ℕ → Photograph
-photographOf card = photographFrom (fieldPart card 1) (fieldPart card 2)
+unfoldable pub modulesOf : List ℕ → List ℕ
+modulesOf card = drop 1 (fieldPart card 3)
+
+unfoldable pub strideOf : List ℕ → ℕ
+strideOf card = numberAt 2 (fieldPart card 1) 4
+
+abbrev pub photographOf : List ℕ → Photograph
+photographOf card = record { bytes = fieldPart card 2; stride = strideOf card }
 
 -- 12, and then the refinement's end
 unfoldable pub jobAnswer : List ℕ → Answer
-jobAnswer card = if goodCard card then refine defaults (requestOf card) (photographOf card) else refused number.card
+jobAnswer card = if goodCard card then refine (requestOf card) (modulesOf card) (photographOf card) else refused number.card
 
 -- all of the above, for a proof that computes with them: to unfold this is to unfold what its line names
 unfoldable pub opened : Unit {0}
-unfolding sizeAt startAt contents isLens suits hasField hasFields isWhole goodCard fieldNumber fieldPart lensOf viewOf cornersOf requestFrom photographFrom requestOf photographOf jobAnswer
+unfolding sizeAt startAt contents isLens suits hasField hasFields isWhole goodCard fieldNumber fieldPart lensOf viewOf cornersOf requestFrom requestOf modulesOf strideOf jobAnswer
 opened = tt

@@ -1,6 +1,5 @@
 -- What the contracts of `cards` cite.
 pub mod Fields
 pub mod JobCard
-pub mod Asks
 pub mod JobMarking
 pub mod ResultCard

@@ -2,7 +2,6 @@
 ghost use mathlib.Core.Path.{_≡_};
 ghost use Prim.Native.Nat.{_<_};
 ghost use lib.ListN.{drop};
-ghost use Rattle.cards.specs.Fields.{numberAt};
 ghost use Rattle.cards.specs.JobCard.{
   workingAt,
   intrinsicsAt,
@@ -11,9 +10,11 @@ ghost use Rattle.cards.specs.JobCard.{
   fieldPart,
   cornersOf,
   requestFrom,
+  requestOf,
+  strideOf,
+  modulesOf,
   jobAnswer,
 };
-ghost use Rattle.cards.specs.Asks.{requestBy, Asks};
 ghost use Rattle.cards.specs.ResultCard.{runNumber, runLeaves};
 use crate::fields::byte_at;
 use crate::fields::float_at;
@@ -27,21 +28,9 @@ use camera::CameraCalibration;
 use camera::CameraIntrinsics;
 use camera::LensDistortion;
 use pixel::WorkingPixel;
+use refine::Request;
 use rounds::Answer;
 use sampling::View;
-
-// What a card asks for, but for the photograph's bytes and the modules: these are lent as they lie in the card.
-pub(crate) struct Asked {
-    pub(crate) width: u32,
-    pub(crate) height: u32,
-    pub(crate) stride: u32,
-    pub(crate) dim: u32,
-    pub(crate) sx: f64,
-    pub(crate) sy: f64,
-    pub(crate) corners: [WorkingPixel; 4],
-    pub(crate) inverted: bool,
-    pub(crate) view: View,
-}
 
 // A field's part. Its number is 0 wherever this is called: the card is well formed.
 pub(crate) fn part<'a>(card: &'a [u8], tag: u8) -> &'a [u8]
@@ -52,7 +41,7 @@ pub(crate) fn part<'a>(card: &'a [u8], tag: u8) -> &'a [u8]
 }
 
 // What is behind the first byte.
-pub(crate) fn behind_first<'a>(s: &'a [u8]) -> &'a [u8]
+fn behind_first<'a>(s: &'a [u8]) -> &'a [u8]
     ensures { λ r. ⌜ now r ≡ drop 1 (now (s .entry)) ⌝ }
 {
     if s.len() < 1 {
@@ -123,35 +112,35 @@ fn view_of(card: &[u8]) -> View
 }
 
 // What the contents of the fields 1 and 3 to 6 ask for.
-fn asked_from(
+fn request_from(
     size: &[u8],
     grid: &[u8],
     scale: &[u8],
     corners: &[u8],
     polarity: &[u8],
     view: View,
-) -> Asked
-    ensures { λ r. ⌜ requestBy r (drop 1 (now (grid .entry))) ≡ requestFrom (now (size .entry)) (now (grid .entry)) (now (scale .entry)) (now (corners .entry)) (now (polarity .entry)) view ⌝ }
-    ensures { λ r. ⌜ r .stride ≡ numberAt 2 (now (size .entry)) 4 ⌝ }
+) -> Request
+    ensures { λ r. ⌜ r ≡ requestFrom (now (size .entry)) (now (grid .entry)) (now (scale .entry))
+        (now (corners .entry)) (now (polarity .entry)) view ⌝ }
 {
-    Asked {
+    Request {
         width: number_at(size, 0, 2) as u32,
         height: number_at(size, 2, 2) as u32,
-        stride: number_at(size, 4, 2) as u32,
         dim: byte_at(grid, 0) as u32,
         sx: float_at(scale, 0),
         sy: float_at(scale, 8),
         corners: corners_of(corners),
         inverted: byte_at(polarity, 0) == 1,
         view,
+        settings: consts::defaults(),
     }
 }
 
-// What a well formed card asks for.
-pub(crate) fn asked_of(card: &[u8]) -> Asked
-    ensures { λ r. ⌜ Asks (now (card .entry)) r ⌝ }
+// What a well formed card asks for, but for the photograph and the modules: these are lent as they lie in the card.
+pub(crate) fn request_of(card: &[u8]) -> Request
+    ensures { λ r. ⌜ r ≡ requestOf (now (card .entry)) ⌝ }
 {
-    asked_from(
+    request_from(
         part(card, 1),
         part(card, 3),
         part(card, 4),
@@ -161,6 +150,20 @@ pub(crate) fn asked_of(card: &[u8]) -> Asked
     )
 }
 
+// The stride of its photograph.
+pub(crate) fn stride_of(card: &[u8]) -> u32
+    ensures { λ r. ⌜ r ≡ strideOf (now (card .entry)) ⌝ }
+{
+    number_at(part(card, 1), 4, 2) as u32
+}
+
+// Its modules.
+pub(crate) fn modules_of<'a>(card: &'a [u8]) -> &'a [u8]
+    ensures { λ r. ⌜ now r ≡ modulesOf (now (card .entry)) ⌝ }
+{
+    behind_first(part(card, 3))
+}
+
 // Runs a job card.
 pub fn run_job(card: &[u8]) -> Answer
     ensures { λ r. ⌜ r ≡ jobAnswer (now (card .entry)) ⌝ }
@@ -168,21 +171,11 @@ pub fn run_job(card: &[u8]) -> Answer
     if !is_good(card) {
         return rounds::refused(number::CARD);
     }
-    let asked = asked_of(card);
-    let corners = asked.corners;
-    let view = asked.view;
     refine::refine_corners_mapped(
         part(card, 2),
-        asked.width,
-        asked.height,
-        asked.stride,
-        behind_first(part(card, 3)),
-        asked.dim,
-        asked.sx,
-        asked.sy,
-        corners,
-        asked.inverted,
-        view,
+        stride_of(card),
+        modules_of(card),
+        request_of(card),
     )
 }
 

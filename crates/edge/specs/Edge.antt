@@ -6,11 +6,10 @@ use lib.ListN.{length}
 use lib.Ieee.{Float, binary64}
 use Rattle.ieee.specs.Root.{root}
 use Rattle.ieee.specs.Floats.{if_then_else_, _⊕_, _⊖_, _⊗_, _⊘_, _≺_, float, f0, f1, f½, f1e-9}
-use Rattle.consts.specs.declared.Settings.{Settings}
 use Rattle.pixel.specs.Pixels.{source, direction}
 use Rattle.pixel.specs.declared.SourcePixel.{SourcePixel}
+use Rattle.pixel.specs.declared.Direction.{Direction}
 use Rattle.pixel.specs.declared.EdgePoint.{EdgePoint}
-use Rattle.homography.specs.declared.PerspectiveTransform.{PerspectiveTransform}
 use Rattle.homography.specs.Homography.{mapPoint}
 use Rattle.fit.specs.declared.EdgeFit.{EdgeFit}
 use Rattle.fit.specs.declared.EdgeFit.the-variants.{Weak}
@@ -20,8 +19,10 @@ use Rattle.profile.specs.declared.Located.{Located}
 use Rattle.profile.specs.declared.Located.the-variants.{Found, NoEdge}
 use Rattle.profile.specs.Profile.{localize}
 use Rattle.grid.specs.declared.Probe.{Probe}
-use Rattle.grid.specs.Grids.{Grid, bySide}
+use Rattle.grid.specs.Grids.{gridOf, bySide}
 use Rattle.grid.specs.Probes.{probesOf}
+use Rattle.edge.specs.declared.Plan.{Plan}
+use Rattle.edge.specs.declared.Side.{Side}
 
 -- ---- a probe's point
 
@@ -36,20 +37,26 @@ boundary e t = beside e f0 f1 t
 abbrev pub inward : ℕ → Float → Float → SourcePixel
 inward e invDim t = beside e invDim (f1 ⊖ invDim) t
 
--- outwards by (ox, oy), whose length is the local module
-unfoldable pub aimed : Settings → Bool → Bool → SourcePixel → Float → Float → Look Located
-aimed s inverted inwardDiffers coarse ox oy =
-    let perpModule = root binary64 (ox ⊗ ox ⊕ oy ⊗ oy) in
+-- outwards by `out`, whose length is the local module
+unfoldable pub aimed : Plan → Bool → SourcePixel → Direction → Look Located
+aimed p inwardDiffers coarse out =
+    let perpModule = root binary64 (out .x ⊗ out .x ⊕ out .y ⊗ out .y) in
     if perpModule ≺ f1e-9 then done NoEdge else
-    localize s (direction (ox ⊘ perpModule) (oy ⊘ perpModule)) (f½ ⊗ perpModule) inverted inwardDiffers coarse
+    localize (p .settings) (record {
+      coarse = coarse;
+      normal = direction (out .x ⊘ perpModule) (out .y ⊘ perpModule);
+      step = f½ ⊗ perpModule;
+      inverted = p .inverted;
+      «inward_differs» = inwardDiffers;
+    })
 
-unfoldable pub probed : Settings → PerspectiveTransform → ℕ → Bool → ℕ → Probe → Look Located
-probed s m dim inverted e p =
-    let b = boundary e (p .t) in
-    let i = inward e (f1 ⊘ float dim) (p .t) in
-    let coarse = mapPoint m (b .0) (b .1) in
-    let inner = mapPoint m (i .0) (i .1) in
-    aimed s inverted (p .«inward_differs») coarse (coarse .0 ⊖ inner .0) (coarse .1 ⊖ inner .1)
+unfoldable pub probed : Plan → Side → Probe → Look Located
+probed p side at =
+    let b = boundary (side .edge) (at .t) in
+    let i = inward (side .edge) (f1 ⊘ float (p .dim)) (at .t) in
+    let coarse = mapPoint (side .map) (b .0) (b .1) in
+    let inner = mapPoint (side .map) (i .0) (i .1) in
+    aimed p (at .«inward_differs») coarse (direction (coarse .0 ⊖ inner .0) (coarse .1 ⊖ inner .1))
 
 -- ---- the points
 
@@ -58,15 +65,15 @@ plus got NoEdge = got
 plus got (Found p) = got ++ p ∷ []
 
 -- the points of the probes, behind those that there are
-unfoldable pub points : Settings → PerspectiveTransform → ℕ → Bool → ℕ → List Probe → List EdgePoint → Look (List EdgePoint)
-points s m dim inverted e [] got = done got
-points s m dim inverted e (p ∷ ps) got = do
-  r ← probed s m dim inverted e p
-  points s m dim inverted e ps (plus got r)
+unfoldable pub points : Plan → Side → List Probe → List EdgePoint → Look (List EdgePoint)
+points p side [] got = done got
+points p side (at ∷ ps) got = do
+  r ← probed p side at
+  points p side ps (plus got r)
 
 -- the line through the points of the probes
-unfoldable pub fitted : Settings → PerspectiveTransform → ℕ → Bool → ℕ → Float → List Probe → Look EdgeFit
-fitted s m dim inverted e modulePx ps = points s m dim inverted e ps [] >>= λ got. done (fitEdge s (length ps) modulePx got)
+unfoldable pub fitted : Plan → Side → Float → List Probe → Look EdgeFit
+fitted p side modulePx ps = points p side ps [] >>= λ got. done (fitEdge (p .settings) (length ps) modulePx got)
 
 -- ---- the edge, from one corner to the next
 
@@ -76,12 +83,12 @@ edgeLength a b =
     let dy = b .1 ⊖ a .1 in
     root binary64 (dx ⊗ dx ⊕ dy ⊗ dy)
 
--- a first corner that coincides with the next has no line, and nothing is counted
-unfoldable pub edge : Settings → PerspectiveTransform → Grid → Bool → ℕ → SourcePixel → SourcePixel → Look EdgeFit
-edge s m g inverted e a b =
-    let len = edgeLength a b in
+-- where its corners coincide there is no line, and nothing is counted
+unfoldable pub edge : Plan → List ℕ → Side → Look EdgeFit
+edge p modules side =
+    let len = edgeLength (side .from) (side .to) in
     if len ≺ f1e-9 then done (Weak (stat 0 0 0 false)) else
-    fitted s m (g .dim) inverted e (len ⊘ float (g .dim)) (probesOf s g e)
+    fitted p side (len ⊘ float (p .dim)) (probesOf (p .settings) (gridOf (p .dim) modules) (side .edge))
 
 -- all of the above, for a proof that computes with them: to unfold this is to unfold what its line names
 unfoldable pub opened : Unit {0}

@@ -1,12 +1,11 @@
 // refine.rs, one edge of a round: its probes, the points that they find, and the line through those.
 ghost use mathlib.Core.Path.{_≡_};
 ghost use mathlib.Core.List.{[]};
-ghost use Prim.Native.Nat.{_+_, _≤_, _<_};
+ghost use Prim.Native.Nat.{_≤_};
 ghost use lib.ListN.{length};
 ghost use Rattle.consts.specs.Consts.{room};
 ghost use Rattle.sampling.specs.Photographs.{photo};
-ghost use Rattle.look.specs.Run.{Runs};
-ghost use Rattle.grid.specs.Grids.{gridOf};
+ghost use Rattle.look.specs.Run.{state, sampler, Runs};
 ghost use Rattle.grid.specs.Probes.{held};
 ghost use Rattle.edge.specs.Edge.{beside as besideOf, aimed, probed, points, fitted, edgeLength, edge as edgeOf};
 ghost use Rattle.edge.specs.Store.{storedTo, Adds, Room, Holds};
@@ -22,7 +21,22 @@ use pixel::Direction;
 use pixel::SourcePixel;
 use profile::Localized;
 use profile::Located;
+use profile::Ray;
 use sampling::Scene;
+
+// What a refinement goes by: the settings, and the label's side in modules and its polarity.
+pub struct Plan {
+    pub settings: Settings,
+    pub dim: u32,
+    pub inverted: bool,
+}
+
+// What all of a run shares: how its photograph lies and is seen, and the plan.
+pub struct Task {
+    pub scene: Scene,
+    pub stride: u32,
+    pub plan: Plan,
+}
 
 // An edge's end, and what sampling carries along.
 pub struct EdgeRun {
@@ -36,13 +50,20 @@ struct Found {
     meter: Meter,
 }
 
-// What the probes of an edge share.
-struct Side {
-    settings: Settings,
-    map: PerspectiveTransform,
-    dim: u32,
-    inverted: bool,
-    edge: u32,
+// One side of the label in a round: the round's map, which edge it is (0 top, 1 right, 2 bottom, 3 left), and the
+// corners that it joins.
+pub struct Side {
+    pub map: PerspectiveTransform,
+    pub edge: u32,
+    pub from: SourcePixel,
+    pub to: SourcePixel,
+}
+
+// A side with the probes that are to find its points.
+struct Search {
+    task: Task,
+    side: Side,
+    probes: Probes,
 }
 
 // ---- a probe's point
@@ -60,76 +81,85 @@ fn beside(edge: u32, near: f64, far: f64, t: f64) -> SourcePixel
     }
 }
 
-// A probe at `coarse`, outwards by (ox, oy): that length is the local module, and half of it the step.
+// A probe at `coarse`, outwards by `out`: that length is the local module, and half of it the step.
 fn aim(
+    task: Task,
     bytes: &[u8],
-    stride: u32,
-    scene: Scene,
     sheet: &mut [u8],
+    copy: &mut [u8],
     meter: Meter,
-    side: Side,
     inward_differs: bool,
     coarse: SourcePixel,
-    ox: f64,
-    oy: f64,
+    out: Direction,
 ) -> Localized
-    ensures { λ r. ⌜ Runs scene (photo (now (bytes .entry)) stride) (aimed (side .settings) (side .inverted) «inward_differs» coarse ox oy) (r .located) (now (sheet .entry)) (now (sheet .exit)) meter (r .meter) ⌝ }
+    ensures { λ r. ⌜ Runs (sampler (task .scene) (photo (now (bytes .entry)) (task .stride)))
+        (aimed (task .plan) «inward_differs» coarse out) (r .located)
+        (state (now (sheet .entry)) (now (copy .entry)) meter)
+        (state (now (sheet .exit)) (now (copy .exit)) (r .meter)) ⌝ }
 {
-    let perp_module_px = ieee::sqrt(ox * ox + oy * oy);
+    let perp_module_px = ieee::sqrt(out.x * out.x + out.y * out.y);
     if perp_module_px < 1e-9 {
         return Localized {
             located: Located::NoEdge,
             meter,
         };
     }
-    let normal = Direction {
-        x: ox / perp_module_px,
-        y: oy / perp_module_px,
+    let ray = Ray {
+        coarse,
+        normal: Direction {
+            x: out.x / perp_module_px,
+            y: out.y / perp_module_px,
+        },
+        step: 0.5 * perp_module_px,
+        inverted: task.plan.inverted,
+        inward_differs,
     };
     profile::localize(
-        side.settings,
+        task.plan.settings,
         bytes,
-        stride,
-        scene,
+        task.stride,
+        task.scene,
         sheet,
+        copy,
         meter,
-        coarse,
-        normal,
-        0.5 * perp_module_px,
-        side.inverted,
-        inward_differs,
+        ray,
     )
 }
 
 // One probe: from the point one module further in to the boundary goes outwards.
 fn probe_edge(
+    task: Task,
     bytes: &[u8],
-    stride: u32,
-    scene: Scene,
     sheet: &mut [u8],
+    copy: &mut [u8],
     meter: Meter,
     side: Side,
     probe: Probe,
 ) -> Localized
-    ensures { λ r. ⌜ Runs scene (photo (now (bytes .entry)) stride) (probed (side .settings) (side .map) (side .dim) (side .inverted) (side .edge) probe) (r .located) (now (sheet .entry)) (now (sheet .exit)) meter (r .meter) ⌝ }
+    ensures { λ r. ⌜ Runs (sampler (task .scene) (photo (now (bytes .entry)) (task .stride)))
+        (probed (task .plan) side probe) (r .located)
+        (state (now (sheet .entry)) (now (copy .entry)) meter)
+        (state (now (sheet .exit)) (now (copy .exit)) (r .meter)) ⌝ }
 {
     let map = side.map;
-    let inv_dim = 1.0 / side.dim as f64;
+    let inv_dim = 1.0 / task.plan.dim as f64;
     let b = beside(side.edge, 0.0, 1.0, probe.t);
     let i = beside(side.edge, inv_dim, 1.0 - inv_dim, probe.t);
     let coarse = map.map(b.0, b.1);
     let inner = map.map(i.0, i.1);
+    let out = Direction {
+        x: coarse.0 - inner.0,
+        y: coarse.1 - inner.1,
+    };
     aim(
+        task,
         bytes,
-        stride,
-        scene,
         sheet,
+        copy,
         meter,
-        side,
         probe.inward_differs,
         coarse,
-        coarse.0 - inner.0,
-        coarse.1 - inner.1,
+        out,
     )
 }
 
@@ -138,7 +168,8 @@ fn probe_edge(
 // A point that was found goes behind the first n; how many there are then.
 fn put(located: Located, xs: &mut [f64], ys: &mut [f64], weights: &mut [f64], n: usize) -> usize
     requires { ⌜ Room n (now xs) (now ys) (now weights) ⌝ }
-    ensures { λ r. ⌜ Adds located n (storedTo n (now (xs .entry)) (now (ys .entry)) (now (weights .entry))) r (storedTo r (now (xs .exit)) (now (ys .exit)) (now (weights .exit))) ⌝ }
+    ensures { λ r. ⌜ Adds located n (storedTo n (now (xs .entry)) (now (ys .entry)) (now (weights .entry)))
+        r (storedTo r (now (xs .exit)) (now (ys .exit)) (now (weights .exit))) ⌝ }
 {
     match located {
         Located::Found(point) => {
@@ -153,26 +184,32 @@ fn put(located: Located, xs: &mut [f64], ys: &mut [f64], weights: &mut [f64], n:
 
 // The points that an edge's probes find, into the three slices.
 fn find_points(
+    search: Search,
     bytes: &[u8],
-    stride: u32,
-    scene: Scene,
     sheet: &mut [u8],
+    copy: &mut [u8],
     meter: Meter,
-    side: Side,
-    probes: Probes,
     xs: &mut [f64],
     ys: &mut [f64],
     weights: &mut [f64],
 ) -> Found
-    requires { ⌜ Holds probes (now xs) (now ys) (now weights) ⌝ }
-    ensures { λ r. ⌜ (r .count ≤ probes .count) × Runs scene (photo (now (bytes .entry)) stride) (points (side .settings) (side .map) (side .dim) (side .inverted) (side .edge) (held probes) []) (storedTo (r .count) (now (xs .exit)) (now (ys .exit)) (now (weights .exit))) (now (sheet .entry)) (now (sheet .exit)) meter (r .meter) ⌝ }
+    requires { ⌜ Holds (search .probes) (now xs) (now ys) (now weights) ⌝ }
+    ensures { λ r. ⌜ (r .count ≤ search .probes .count)
+        × Runs (sampler (search .task .scene) (photo (now (bytes .entry)) (search .task .stride)))
+        (points (search .task .plan) (search .side) (held (search .probes)) [])
+        (storedTo (r .count) (now (xs .exit)) (now (ys .exit)) (now (weights .exit)))
+        (state (now (sheet .entry)) (now (copy .entry)) meter)
+        (state (now (sheet .exit)) (now (copy .exit)) (r .meter)) ⌝ }
 {
+    let task = search.task;
+    let side = search.side;
+    let probes = search.probes;
     let n = probes.count;
     let list = probes.probes;
     let mut found = Found { count: 0, meter };
     let mut i: usize = 0;
     while i < n {
-        let run = probe_edge(bytes, stride, scene, sheet, found.meter, side, list[i]);
+        let run = probe_edge(task, bytes, sheet, copy, found.meter, side, list[i]);
         let located = run.located;
         let count = put(located, xs, ys, weights, found.count);
         let meter = run.meter;
@@ -184,37 +221,36 @@ fn find_points(
 
 // The line through the points of the probes; `module_px` scales what is an outlier.
 fn fit_probes(
+    search: Search,
     bytes: &[u8],
-    stride: u32,
-    scene: Scene,
     sheet: &mut [u8],
+    copy: &mut [u8],
     meter: Meter,
-    side: Side,
     module_px: f64,
-    probes: Probes,
 ) -> EdgeRun
-    requires { ⌜ (probes .count ≤ room) × (length (probes .probes) ≡ room) ⌝ }
-    ensures { λ r. ⌜ Runs scene (photo (now (bytes .entry)) stride) (fitted (side .settings) (side .map) (side .dim) (side .inverted) (side .edge) «module_px» (held probes)) (r .fit) (now (sheet .entry)) (now (sheet .exit)) meter (r .meter) ⌝ }
+    requires { ⌜ (search .probes .count ≤ room) × (length (search .probes .probes) ≡ room) ⌝ }
+    ensures { λ r. ⌜ Runs (sampler (search .task .scene) (photo (now (bytes .entry)) (search .task .stride)))
+        (fitted (search .task .plan) (search .side) «module_px» (held (search .probes))) (r .fit)
+        (state (now (sheet .entry)) (now (copy .entry)) meter)
+        (state (now (sheet .exit)) (now (copy .exit)) (r .meter)) ⌝ }
 {
     let mut xs = [0.0; ROOM];
     let mut ys = [0.0; ROOM];
     let mut weights = [0.0; ROOM];
     let found = find_points(
+        search,
         bytes,
-        stride,
-        scene,
         sheet,
+        copy,
         meter,
-        side,
-        probes,
         &mut xs,
         &mut ys,
         &mut weights,
     );
     let n = found.count;
-    let probed = probes.count as u32;
+    let probed = search.probes.count as u32;
     let fit = fit::fit_edge(
-        side.settings,
+        search.task.plan.settings,
         &xs[..n],
         &ys[..n],
         &weights[..n],
@@ -236,26 +272,22 @@ fn length_of(a: SourcePixel, b: SourcePixel) -> f64
     ieee::sqrt(dx * dx + dy * dy)
 }
 
-// One edge of a round, from corner a to corner b: where the corners coincide there is no line, and
-// nothing is counted.
+// One edge of a round: where its corners coincide there is no line, and nothing is counted.
 pub fn refine_edge(
-    settings: Settings,
+    task: Task,
     bytes: &[u8],
-    stride: u32,
-    scene: Scene,
-    sheet: &mut [u8],
-    meter: Meter,
-    map: PerspectiveTransform,
     modules: &[u8],
-    dim: u32,
-    inverted: bool,
-    edge: u32,
-    a: SourcePixel,
-    b: SourcePixel,
+    sheet: &mut [u8],
+    copy: &mut [u8],
+    meter: Meter,
+    side: Side,
 ) -> EdgeRun
-    ensures { λ r. ⌜ Runs scene (photo (now (bytes .entry)) stride) (edgeOf settings map (gridOf dim (now (modules .entry))) inverted edge a b) (r .fit) (now (sheet .entry)) (now (sheet .exit)) meter (r .meter) ⌝ }
+    ensures { λ r. ⌜ Runs (sampler (task .scene) (photo (now (bytes .entry)) (task .stride)))
+        (edgeOf (task .plan) (now (modules .entry)) side) (r .fit)
+        (state (now (sheet .entry)) (now (copy .entry)) meter)
+        (state (now (sheet .exit)) (now (copy .exit)) (r .meter)) ⌝ }
 {
-    let len = length_of(a, b);
+    let len = length_of(side.from, side.to);
     if len < 1e-9 {
         let none = EdgeStat {
             points_probed: 0,
@@ -268,22 +300,8 @@ pub fn refine_edge(
             meter,
         };
     }
-    let probes = grid::probes_of(settings, modules, dim, edge);
-    let side = Side {
-        settings,
-        map,
-        dim,
-        inverted,
-        edge,
-    };
-    fit_probes(
-        bytes,
-        stride,
-        scene,
-        sheet,
-        meter,
-        side,
-        len / dim as f64,
-        probes,
-    )
+    let probes = grid::probes_of(task.plan.settings, modules, task.plan.dim, side.edge);
+    let search = Search { task, side, probes };
+    let module_px = len / task.plan.dim as f64;
+    fit_probes(search, bytes, sheet, copy, meter, module_px)
 }

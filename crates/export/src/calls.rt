@@ -1,8 +1,37 @@
 // The refinement calls over the photograph as it is.
+ghost use mathlib.Core.Path.{_≡_};
 ghost use Rattle.sampling.specs.declared.View.the-variants.{Plain};
-ghost use Rattle.refine.specs.Refine.{photograph};
+ghost use Rattle.refine.specs.Refine.{photograph, refine};
 ghost use Rattle.lent.specs.Answers.{Written};
-ghost use Rattle.export.specs.Calls.{lentRequest, lentJob, WrittenMarked};
+ghost use Rattle.export.specs.Calls.{lentRequest, WrittenMarked};
+use refine::Request;
+use sampling::View;
+
+// What is asked by what is lent.
+pub(crate) fn request_of(
+    width: u32,
+    height: u32,
+    dim: u32,
+    sx: f64,
+    sy: f64,
+    corners: &[f64],
+    inverted: bool,
+    view: View,
+) -> Request
+    ensures { λ r. ⌜ r ≡ lentRequest width height dim sx sy (now (corners .entry)) inverted view ⌝ }
+{
+    Request {
+        width,
+        height,
+        dim,
+        sx,
+        sy,
+        corners: lent::working_of(corners),
+        inverted,
+        view,
+        settings: consts::defaults(),
+    }
+}
 
 #[no_mangle]
 pub extern "C" fn trufolmesca_refine_corners(
@@ -19,21 +48,12 @@ pub extern "C" fn trufolmesca_refine_corners(
     places: &mut [f64],
     counts: &mut [u32],
 ) -> u32
-    ensures { λ r. ⌜ Written (lentJob (now (bytes .entry)) width height stride (now (modules .entry)) dim sx sy (now (corners .entry)) inverted Plain) r (now (places .entry)) (now (places .exit)) (now (counts .entry)) (now (counts .exit)) ⌝ }
+    ensures { λ r. ⌜ Written (refine (lentRequest width height dim sx sy (now (corners .entry)) inverted Plain)
+        (now (modules .entry)) (photograph (now (bytes .entry)) stride)) r
+        (now (places .entry)) (now (places .exit)) (now (counts .entry)) (now (counts .exit)) ⌝ }
 {
-    let q = lent::working_of(corners);
-    let a = refine::refine_corners(
-        bytes,
-        width,
-        height,
-        stride,
-        modules,
-        dim,
-        sx,
-        sy,
-        q,
-        inverted,
-    );
+    let request = request_of(width, height, dim, sx, sy, corners, inverted, View::Plain);
+    let a = refine::refine_corners(bytes, stride, modules, request);
     lent::put_answer(a, places, counts)
 }
 
@@ -55,22 +75,12 @@ pub extern "C" fn trufolmesca_refine_corners_marking(
     sheet: &mut [u8],
     copy: &mut [u8],
 ) -> u32
-    ensures { λ r. ⌜ WrittenMarked (lentRequest width height (now (modules .entry)) dim sx sy (now (corners .entry)) inverted Plain) (photograph (now (bytes .entry)) stride) r (now (places .entry)) (now (places .exit)) (now (counts .entry)) (now (counts .exit)) (now (sheet .entry)) (now (sheet .exit)) (now (copy .entry)) (now (copy .exit)) ⌝ }
+    ensures { λ r. ⌜ WrittenMarked (lentRequest width height dim sx sy (now (corners .entry)) inverted Plain)
+        (now (modules .entry)) (photograph (now (bytes .entry)) stride) r
+        (now (places .entry)) (now (places .exit)) (now (counts .entry)) (now (counts .exit))
+        (now (sheet .entry)) (now (sheet .exit)) (now (copy .entry)) (now (copy .exit)) ⌝ }
 {
-    let q = lent::working_of(corners);
-    let a = marking::refine_corners_marking(
-        bytes,
-        width,
-        height,
-        stride,
-        modules,
-        dim,
-        sx,
-        sy,
-        q,
-        inverted,
-        sheet,
-        copy,
-    );
+    let request = request_of(width, height, dim, sx, sy, corners, inverted, View::Plain);
+    let a = marking::refine_corners_marking(bytes, stride, modules, request, sheet, copy);
     lent::put_answer(a, places, counts)
 }

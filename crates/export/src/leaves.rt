@@ -3,7 +3,7 @@ ghost use mathlib.Core.Path.{_≡_};
 ghost use lib.ListN.{set};
 ghost use lib.Ieee.{binary64};
 ghost use Rattle.ieee.specs.Root.{root};
-ghost use Rattle.pixel.specs.Pixels.{source, direction};
+ghost use Rattle.pixel.specs.Pixels.{source};
 ghost use Rattle.sampling.specs.Sampling.{sampleBilinear};
 ghost use Rattle.sampling.specs.declared.View.the-variants.{Plain};
 ghost use Rattle.camera.specs.Camera.{cameraAnswer};
@@ -11,9 +11,12 @@ ghost use Rattle.homography.specs.Homography.{squareToQuad, quadToQuad, mapAnsw
 ghost use Rattle.line.specs.Line.{fitLine, lineAnswer, crossing, crossAnswer};
 ghost use Rattle.profile.specs.Profile.{localizeEdgePoint};
 ghost use Rattle.lent.specs.Lent.{quadOf, mapOf, lineOf, cameraOf, viewOf, borderOf, withPlace, withPoint, withLine, withMap};
+ghost use Rattle.export.specs.Calls.{lentScene, lentRay};
 use homography::PerspectiveTransform;
 use pixel::Direction;
 use pixel::SourcePixel;
+use profile::Ray;
+use sampling::Scene;
 use sampling::View;
 
 // ---- sampling.rs
@@ -31,7 +34,8 @@ pub extern "C" fn trufolmesca_sample_bilinear(
     value: &mut [f64],
 ) -> u32
     ensures { λ r. ⌜ r ≡ sampleBilinear (now (bytes .entry)) width height stride x y (borderOf border constant) .number ⌝ }
-    ensures { λ _. ⌜ now (value .exit) ≡ set (now (value .entry)) 0 (sampleBilinear (now (bytes .entry)) width height stride x y (borderOf border constant) .luma) ⌝ }
+    ensures { λ _. ⌜ now (value .exit) ≡ set (now (value .entry)) 0
+        (sampleBilinear (now (bytes .entry)) width height stride x y (borderOf border constant) .luma) ⌝ }
 {
     let mode = lent::border_of(border, constant);
     let a = sampling::sample_bilinear(bytes, width, height, stride, x, y, mode);
@@ -74,7 +78,8 @@ pub extern "C" fn trufolmesca_square_to_quad(corners: &[f64], map: &mut [f64]) -
 #[no_mangle]
 pub extern "C" fn trufolmesca_quad_to_quad(from: &[f64], to: &[f64], map: &mut [f64]) -> u32
     ensures { λ r. ⌜ r ≡ mapAnswer (quadToQuad (quadOf (now (from .entry))) (quadOf (now (to .entry)))) .number ⌝ }
-    ensures { λ _. ⌜ now (map .exit) ≡ withMap (mapAnswer (quadToQuad (quadOf (now (from .entry))) (quadOf (now (to .entry)))) .map) (now (map .entry)) ⌝ }
+    ensures { λ _. ⌜ now (map .exit) ≡ withMap (mapAnswer (quadToQuad (quadOf (now (from .entry))) (quadOf (now (to .entry)))) .map)
+        (now (map .entry)) ⌝ }
 {
     let f = lent::quad_of(from);
     let t = lent::quad_of(to);
@@ -126,7 +131,8 @@ pub extern "C" fn trufolmesca_fit_line_tls_weighted(
     line: &mut [f64],
 ) -> u32
     ensures { λ r. ⌜ r ≡ lineAnswer (fitLine (now (xs .entry)) (now (ys .entry)) (now (weights .entry))) .number ⌝ }
-    ensures { λ _. ⌜ now (line .exit) ≡ withLine (lineAnswer (fitLine (now (xs .entry)) (now (ys .entry)) (now (weights .entry))) .line) (now (line .entry)) ⌝ }
+    ensures { λ _. ⌜ now (line .exit) ≡ withLine (lineAnswer (fitLine (now (xs .entry)) (now (ys .entry)) (now (weights .entry))) .line)
+        (now (line .entry)) ⌝ }
 {
     let a = line::fit_line_tls_weighted(xs, ys, weights);
     lent::put_line(line, a.line);
@@ -136,7 +142,8 @@ pub extern "C" fn trufolmesca_fit_line_tls_weighted(
 #[no_mangle]
 pub extern "C" fn trufolmesca_intersect_lines(a: &[f64], b: &[f64], place: &mut [f64]) -> u32
     ensures { λ r. ⌜ r ≡ crossAnswer (crossing (lineOf (now (a .entry))) (lineOf (now (b .entry)))) .number ⌝ }
-    ensures { λ _. ⌜ now (place .exit) ≡ withPlace (crossAnswer (crossing (lineOf (now (a .entry))) (lineOf (now (b .entry)))) .place) (now (place .entry)) ⌝ }
+    ensures { λ _. ⌜ now (place .exit) ≡ withPlace (crossAnswer (crossing (lineOf (now (a .entry))) (lineOf (now (b .entry)))) .place)
+        (now (place .entry)) ⌝ }
 {
     let first = lent::line_of(a);
     let second = lent::line_of(b);
@@ -162,26 +169,28 @@ pub extern "C" fn trufolmesca_localize_edge_point(
     inward_differs: bool,
     point: &mut [f64],
 ) -> u32
-    ensures { λ r. ⌜ r ≡ localizeEdgePoint (now (bytes .entry)) width height stride Plain (source «coarse_x» «coarse_y») (direction «normal_x» «normal_y») step inverted «inward_differs» .number ⌝ }
-    ensures { λ _. ⌜ now (point .exit) ≡ withPoint (localizeEdgePoint (now (bytes .entry)) width height stride Plain (source «coarse_x» «coarse_y») (direction «normal_x» «normal_y») step inverted «inward_differs» .point) (now (point .entry)) ⌝ }
+    ensures { λ r. ⌜ r ≡ localizeEdgePoint (now (bytes .entry)) stride (lentScene width height Plain)
+        (lentRay «coarse_x» «coarse_y» «normal_x» «normal_y» step inverted «inward_differs») .number ⌝ }
+    ensures { λ _. ⌜ now (point .exit) ≡ withPoint (localizeEdgePoint (now (bytes .entry)) stride
+        (lentScene width height Plain)
+        (lentRay «coarse_x» «coarse_y» «normal_x» «normal_y» step inverted «inward_differs») .point) (now (point .entry)) ⌝ }
 {
-    let coarse = SourcePixel(coarse_x, coarse_y);
-    let normal = Direction {
-        x: normal_x,
-        y: normal_y,
-    };
-    let a = profile::localize_edge_point(
-        bytes,
+    let scene = Scene {
         width,
         height,
-        stride,
-        View::Plain,
-        coarse,
-        normal,
+        view: View::Plain,
+    };
+    let ray = Ray {
+        coarse: SourcePixel(coarse_x, coarse_y),
+        normal: Direction {
+            x: normal_x,
+            y: normal_y,
+        },
         step,
         inverted,
         inward_differs,
-    );
+    };
+    let a = profile::localize_edge_point(bytes, stride, scene, ray);
     lent::put_point(point, a.point);
     a.number
 }
@@ -203,27 +212,29 @@ pub extern "C" fn trufolmesca_localize_edge_point_mapped(
     lens: bool,
     point: &mut [f64],
 ) -> u32
-    ensures { λ r. ⌜ r ≡ localizeEdgePoint (now (bytes .entry)) width height stride (viewOf (now (camera .entry)) lens) (source «coarse_x» «coarse_y») (direction «normal_x» «normal_y») step inverted «inward_differs» .number ⌝ }
-    ensures { λ _. ⌜ now (point .exit) ≡ withPoint (localizeEdgePoint (now (bytes .entry)) width height stride (viewOf (now (camera .entry)) lens) (source «coarse_x» «coarse_y») (direction «normal_x» «normal_y») step inverted «inward_differs» .point) (now (point .entry)) ⌝ }
+    ensures { λ r. ⌜ r ≡ localizeEdgePoint (now (bytes .entry)) stride (lentScene width height (viewOf (now (camera .entry)) lens))
+        (lentRay «coarse_x» «coarse_y» «normal_x» «normal_y» step inverted «inward_differs») .number ⌝ }
+    ensures { λ _. ⌜ now (point .exit) ≡ withPoint (localizeEdgePoint (now (bytes .entry)) stride
+        (lentScene width height (viewOf (now (camera .entry)) lens))
+        (lentRay «coarse_x» «coarse_y» «normal_x» «normal_y» step inverted «inward_differs») .point) (now (point .entry)) ⌝ }
 {
     let view = lent::view_of(camera, lens);
-    let coarse = SourcePixel(coarse_x, coarse_y);
-    let normal = Direction {
-        x: normal_x,
-        y: normal_y,
-    };
-    let a = profile::localize_edge_point(
-        bytes,
+    let scene = Scene {
         width,
         height,
-        stride,
         view,
-        coarse,
-        normal,
+    };
+    let ray = Ray {
+        coarse: SourcePixel(coarse_x, coarse_y),
+        normal: Direction {
+            x: normal_x,
+            y: normal_y,
+        },
         step,
         inverted,
         inward_differs,
-    );
+    };
+    let a = profile::localize_edge_point(bytes, stride, scene, ray);
     lent::put_point(point, a.point);
     a.number
 }

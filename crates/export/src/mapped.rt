@@ -1,8 +1,8 @@
 // The refinement calls over the photograph seen through a camera.
-ghost use Rattle.refine.specs.Refine.{photograph};
+ghost use Rattle.refine.specs.Refine.{photograph, refine};
 ghost use Rattle.lent.specs.Lent.{viewOf};
 ghost use Rattle.lent.specs.Answers.{Written};
-ghost use Rattle.export.specs.Calls.{lentRequest, lentJob, WrittenMarked};
+ghost use Rattle.export.specs.Calls.{lentRequest, WrittenMarked};
 
 #[no_mangle]
 pub extern "C" fn trufolmesca_refine_corners_mapped(
@@ -21,23 +21,13 @@ pub extern "C" fn trufolmesca_refine_corners_mapped(
     places: &mut [f64],
     counts: &mut [u32],
 ) -> u32
-    ensures { λ r. ⌜ Written (lentJob (now (bytes .entry)) width height stride (now (modules .entry)) dim sx sy (now (corners .entry)) inverted (viewOf (now (camera .entry)) lens)) r (now (places .entry)) (now (places .exit)) (now (counts .entry)) (now (counts .exit)) ⌝ }
+    ensures { λ r. ⌜ Written (refine (lentRequest width height dim sx sy (now (corners .entry)) inverted (viewOf (now (camera .entry)) lens))
+        (now (modules .entry)) (photograph (now (bytes .entry)) stride)) r
+        (now (places .entry)) (now (places .exit)) (now (counts .entry)) (now (counts .exit)) ⌝ }
 {
-    let q = lent::working_of(corners);
     let view = lent::view_of(camera, lens);
-    let a = refine::refine_corners_mapped(
-        bytes,
-        width,
-        height,
-        stride,
-        modules,
-        dim,
-        sx,
-        sy,
-        q,
-        inverted,
-        view,
-    );
+    let request = crate::calls::request_of(width, height, dim, sx, sy, corners, inverted, view);
+    let a = refine::refine_corners_mapped(bytes, stride, modules, request);
     lent::put_answer(a, places, counts)
 }
 
@@ -61,24 +51,13 @@ pub extern "C" fn trufolmesca_refine_corners_mapped_marking(
     sheet: &mut [u8],
     copy: &mut [u8],
 ) -> u32
-    ensures { λ r. ⌜ WrittenMarked (lentRequest width height (now (modules .entry)) dim sx sy (now (corners .entry)) inverted (viewOf (now (camera .entry)) lens)) (photograph (now (bytes .entry)) stride) r (now (places .entry)) (now (places .exit)) (now (counts .entry)) (now (counts .exit)) (now (sheet .entry)) (now (sheet .exit)) (now (copy .entry)) (now (copy .exit)) ⌝ }
+    ensures { λ r. ⌜ WrittenMarked (lentRequest width height dim sx sy (now (corners .entry)) inverted (viewOf (now (camera .entry)) lens))
+        (now (modules .entry)) (photograph (now (bytes .entry)) stride) r
+        (now (places .entry)) (now (places .exit)) (now (counts .entry)) (now (counts .exit))
+        (now (sheet .entry)) (now (sheet .exit)) (now (copy .entry)) (now (copy .exit)) ⌝ }
 {
-    let q = lent::working_of(corners);
     let view = lent::view_of(camera, lens);
-    let a = marking::refine_corners_mapped_marking(
-        bytes,
-        width,
-        height,
-        stride,
-        modules,
-        dim,
-        sx,
-        sy,
-        q,
-        inverted,
-        view,
-        sheet,
-        copy,
-    );
+    let request = crate::calls::request_of(width, height, dim, sx, sy, corners, inverted, view);
+    let a = marking::refine_corners_mapped_marking(bytes, stride, modules, request, sheet, copy);
     lent::put_answer(a, places, counts)
 }

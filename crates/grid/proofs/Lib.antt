@@ -3,4 +3,3 @@ pub mod Modules
 pub mod Sides
 pub mod Candidates
 pub mod Thinning
-pub mod SameGrid

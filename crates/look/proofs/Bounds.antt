@@ -3,15 +3,15 @@
 use mathlib.Core.Path.{_≡_, sym, ap, _∙_, subst}
 use Prim.Native.Nat.{ℕ, zero, suc, _+_, _≤_, zero-le, suc-le-suc}
 use native.Mathlib.Nat.{suc-add, add-suc}
-use mathlib.Core.List.{List}
 use Rattle.sampling.specs.Photographs.{Photo}
 use Rattle.sampling.specs.declared.Scene.{Scene}
 use Rattle.sampling.specs.declared.Sampled.{Sampled}
 use Rattle.sampling.specs.Sampling.{sceneSpot, shade}
 use Rattle.look.specs.declared.Meter.{Meter}
 use Rattle.look.specs.Look.{Look, done, sample, _>>=_, taken}
-use Rattle.look.specs.Run.{Runs}
+use Rattle.look.specs.Run.{State, sampler, Runs}
 use Rattle.look.proofs.Counts.{ticks-count}
+use Rattle.look.proofs.Meaning.{ran-counts}
 
 unfoldable pub AtMost : {A : Type 0} → ℕ → Look A → Type 0
 AtMost n (done a) = Unit {0}
@@ -46,6 +46,6 @@ most-bind (suc m) n (sample q k) f h g =
     subst (λ (l : ℕ). AtMost l (sample q (λ r. k r >>= f))) (sym (suc-add m n)) (λ r. most-bind m n (k r) f (h r) g)
 
 -- a run that 64 bits count is counted
-pub counted : {A : Type 0} {e : Scene} {p : Photo} {t : Look A} {r : A} {s s′ : List ℕ} {m m′ : Meter} → Runs e p t r s s′ m m′
-    → m .tried + taken e p t ≤ 18446744073709551615 → m′ .tried ≡ m .tried + taken e p t
-counted {e = e} {p = p} {t = t} {m = m} h l = ap (λ (z : Meter). z .tried) (h .counts) ∙ ticks-count (taken e p t) m l
+pub counted : {A : Type 0} (e : Scene) (p : Photo) {t : Look A} {r : A} {s s′ : State} → Runs (sampler e p) t r s s′
+    → s .meter .tried + taken e p t ≤ 18446744073709551615 → s′ .meter .tried ≡ s .meter .tried + taken e p t
+counted e p {t = t} {s = s} h l = ap (λ (z : Meter). z .tried) (ran-counts e p h) ∙ ticks-count (taken e p t) (s .meter) l

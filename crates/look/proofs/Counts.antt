@@ -1,17 +1,11 @@
--- The count of samples: counting a and then b is counting a + b, and as long as 64 bits hold it the count is a sum. By induction on how many are counted.
+-- The count of samples: as long as 64 bits hold it the count is a sum. By induction on how many are counted.
 -- Assumes nothing.
-use mathlib.Core.Path.{_≡_, ap, _∙_}
+use mathlib.Core.Path.{_≡_}
 use Prim.Native.Nat.{ℕ, zero, suc, _+_, _≤_, _<_}
-use native.Mathlib.Nat.{zero-add, suc-add}
 use native.Mathlib.Omega.{arith}
 use borrow.Author.Tests.{lt-ltb, le-ltb}
 use Rattle.look.specs.declared.Meter.{Meter}
 use Rattle.look.specs.Meters.{tick, ticks}
-
-pub ticks-add : (a b : ℕ) (m : Meter) → ticks (a + b) m ≡ ticks b (ticks a m)
-unfolding ticks
-ticks-add zero b m = ap (λ (n : ℕ). ticks n m) (zero-add b)
-ticks-add (suc a) b m = ap (λ (n : ℕ). ticks n m) (suc-add a b) ∙ ticks-add a b (tick m)
 
 pub tick-below : (m : Meter) → m .tried < 18446744073709551615 → tick m .tried ≡ m .tried + 1
 unfolding tick

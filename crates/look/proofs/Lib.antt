@@ -1,10 +1,11 @@
 -- What holds of every tree of samples, and of every function that runs one.
 pub mod Counts
-pub mod Trees
 pub mod Steps
-pub mod Bounds
+pub mod Simulation
 pub mod Always
 pub mod Agreement
 pub mod Inside
 pub mod Sheets
+pub mod Meaning
+pub mod Bounds
 pub mod Demand3

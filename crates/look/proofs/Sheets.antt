@@ -1,25 +1,19 @@
--- What the sheet and the copy of a run hold, and how the code comes to them: a cleared sheet that a run has marked is the sheet, the copy made after it is the copy,
--- and bytes past width × height stay as they were. Why: a pixel of the picture has a place of its own below width × height, so a mark there says of no other
--- pixel that it was read. Assumes nothing.
-use mathlib.Core.Path.{_≡_, refl, sym, ap, ap₂, _∙_, subst}
+-- What the sheet and the copy of a run hold, and how the code comes to them: pixels written one after another onto cleared bytes come to the copy, and to the sheet where
+-- each is written as 1; bytes past width × height stay as they were. Why: a pixel of the picture has a place of its own below width × height, so what is written there
+-- says nothing of any other pixel. Assumes nothing.
+use mathlib.Core.Path.{_≡_, refl, sym, ap, _∙_, subst}
 use Prim.Native.Nat.{ℕ, zero, suc, _+_, _*_, _/_, _%_, _≤_, _<_, suc-le-suc}
 use native.Mathlib.Nat.{not-suc-le-zero, le-of-suc-le-suc, zero-lt-suc, mod-lt, div-lt-iff-lt-mul, mul-comm, le-trans, div-add-mod', le-refl}
-use native.Mathlib.Numerals.{add-one}
 use mathlib.Core.Bool.{Bool, true, false, _&&_, _||_, true≢false}
 use mathlib.Core.List.{List, [], _∷_, _++_}
 use lib.Dec.{T, eqb, eqb-refl}
-use lib.ListN.{getD, length, set, drop, List·getD-append, length-set, replicate, length-replicate, getD-replicate}
+use lib.ListN.{getD, length, set, length-set, replicate, length-replicate, getD-replicate}
 use lib.Seq.{set-append-left, getD-set-same, getD-set-other, ext-getD}
 use borrow.Author.Tests.{eqb-true, eqb-false}
 use Rattle.ieee.specs.Floats.{if_then_else_}
 use Rattle.sampling.specs.Photographs.{Photo, Pixel, pixel}
-use Rattle.sampling.specs.Marks.{mark}
-use Rattle.sampling.specs.declared.Scene.{Scene}
 use Rattle.pixel.proofs.Places.{place-lt}
 use Rattle.sampling.proofs.Pixels.{Each, Inside, place-column, place-row}
-use Rattle.look.specs.declared.Meter.{Meter}
-use Rattle.look.specs.Look.{Look, reads}
-use Rattle.look.specs.Run.{Runs}
 use Rattle.look.specs.Sheets.{isRead, bit, table, sheet, copy}
 
 -- ---- tables
@@ -36,15 +30,6 @@ getD-table (suc n) f (suc i) d h = getD-table n (λ k. f (suc k)) i d (le-of-suc
 pub table-ext : (n : ℕ) (f g : ℕ → ℕ) → ((i : ℕ) → i < n → f i ≡ g i) → table n f ≡ table n g
 table-ext zero f g h = refl
 table-ext (suc n) f g h = λ j. h zero (zero-lt-suc n) j ∷ table-ext n (λ k. f (suc k)) (λ k. g (suc k)) (λ i b. h (suc i) (suc-le-suc b)) j
-
--- a loop that writes a table over the front of d: one entry more
-pub table-more : (n : ℕ) (f : ℕ → ℕ) (d : List ℕ) → n < length d → set (table n f ++ drop n d) n (f n) ≡ table (n + 1) f ++ drop (n + 1) d
-table-more n f d l = subst (λ (k : ℕ). set (table n f ++ drop n d) n (f n) ≡ table k f ++ drop k d) (sym (add-one n)) (go n f d l)
-  where
-    go : (n : ℕ) (f : ℕ → ℕ) (d : List ℕ) → n < length d → set (table n f ++ drop n d) n (f n) ≡ table (suc n) f ++ drop (suc n) d
-    go n f [] l = absurd (not-suc-le-zero l)
-    go zero f (x ∷ d) l = refl
-    go (suc n) f (x ∷ d) l = ap (λ (t : List ℕ). f 0 ∷ t) (go n (λ k. f (suc k)) d (le-of-suc-le-suc l))
 
 -- ---- whether a pixel is in a list
 
@@ -123,97 +108,91 @@ copy-ext w h p q rs pos f =
     pick true a c g = g tt
     pick false a c g = refl
 
--- ---- the sheet as a run writes it
+-- the sheet is the copy of a photograph that is 1 everywhere
+abbrev pub white : Photo
+white x y = 1
 
-pub length-mark : (w : ℕ) (a : List Pixel) (s : List ℕ) → length (mark w a s) ≡ length s
-unfolding mark
-length-mark w [] s = refl
-length-mark w (c ∷ a) s = length-mark w a (set s (c .row * w + c .column) 1) ∙ length-set s (c .row * w + c .column) 1
-
-mark-at : (w : ℕ) (a : List Pixel) (s : List ℕ) (h x y : ℕ) → Each (Inside w h) a → x < w → y < h → w * h ≤ length s
-    → getD (mark w a s) (y * w + x) 0 ≡ (if isRead x y a then 1 else getD s (y * w + x) 0)
-unfolding mark
-mark-at w [] s h x y ha hx hy hl = refl
-mark-at w (c ∷ a) s h x y ha hx hy hl =
-    mark-at w a (set s (c .row * w + c .column) 1) h x y (ha .1) hx hy (subst (λ (n : ℕ). w * h ≤ n) (sym (length-set s (c .row * w + c .column) 1)) hl)
-    ∙ settle (isRead x y a) (eqb x (c .column)) refl (eqb y (c .row)) refl
+pub sheet-white : (w h : ℕ) (rs : List Pixel) → copy w h white rs ≡ sheet w h rs
+unfolding sheet copy
+sheet-white w h rs = table-ext (w * h) _ _ (λ i b. as-bit (isRead (i % w) (i / w) rs))
   where
-    settle : (b : Bool) (t : Bool) → eqb x (c .column) ≡ t → (u : Bool) → eqb y (c .row) ≡ u
-        → (if b then 1 else getD (set s (c .row * w + c .column) 1) (y * w + x) 0) ≡ (if (t && u) || b then 1 else getD s (y * w + x) 0)
-    settle true true et true eu = refl
-    settle true true et false eu = refl
-    settle true false et u eu = refl
-    settle false true et true eu =
-        ap (λ (i : ℕ). getD (set s (c .row * w + c .column) 1) i 0) (ap₂ (λ (a b : ℕ). a * w + b) (eqb-true y (c .row) eu) (eqb-true x (c .column) et))
-        ∙ getD-set-same s (c .row * w + c .column) 1 0 (le-trans (place-lt w h (c .column) (c .row) (ha .0 .across) (ha .0 .down)) hl)
-    settle false true et false eu =
-        getD-set-other s (c .row * w + c .column) (y * w + x) 1 0
-        (λ q. eqb-false y (c .row) eu (sym (place-row w x y hx) ∙ ap (λ (i : ℕ). i / w) q ∙ place-row w (c .column) (c .row) (ha .0 .across)))
-    settle false false et u eu =
-        getD-set-other s (c .row * w + c .column) (y * w + x) 1 0
-        (λ q. eqb-false x (c .column) et (sym (place-column w x y hx) ∙ ap (λ (i : ℕ). i % w) q ∙ place-column w (c .column) (c .row) (ha .0 .across)))
-
--- a sheet of zeros, marked
-mark-zeros : (w h : ℕ) (a : List Pixel) → 0 < w → Each (Inside w h) a → mark w a (replicate (w * h) 0) ≡ sheet w h a
-unfolding sheet
-mark-zeros w h a pos ha =
-    ext-getD 0 (mark w a (replicate (w * h) 0)) (sheet w h a) (long ∙ sym (length-table (w * h) (λ i. bit (isRead (i % w) (i / w) a))))
-    (λ i b. let k : i < w * h = subst (λ (n : ℕ). i < n) long b in
-    ap (λ (n : ℕ). getD (mark w a (replicate (w * h) 0)) n 0) (sym (div-add-mod' i w))
-    ∙ mark-at w a (replicate (w * h) 0) h (i % w) (i / w) ha (mod-lt i pos) (row-lt w h i pos k) (subst (λ (n : ℕ). w * h ≤ n) (sym (length-replicate (w * h) 0)) (le-refl (w * h)))
-    ∙ ap (λ (z : ℕ). if isRead (i % w) (i / w) a then 1 else z) (ap (λ (n : ℕ). getD (replicate (w * h) 0) n 0) (div-add-mod' i w) ∙ getD-replicate (w * h) i 0 0 k)
-    ∙ as-bit (isRead (i % w) (i / w) a)
-    ∙ sym (getD-table (w * h) (λ i. bit (isRead (i % w) (i / w) a)) i 0 k))
-  where
-    long : length (mark w a (replicate (w * h) 0)) ≡ w * h
-    long = length-mark w a (replicate (w * h) 0) ∙ length-replicate (w * h) 0
-
     as-bit : (b : Bool) → (if b then 1 else 0) ≡ bit b
     as-bit true = refl
     as-bit false = refl
 
--- a tail that no pixel reaches stays
-mark-append : (w h : ℕ) (a : List Pixel) (s t : List ℕ) → Each (Inside w h) a → w * h ≤ length s → mark w a (s ++ t) ≡ mark w a s ++ t
-unfolding mark
-mark-append w h [] s t ha hl = refl
-mark-append w h (c ∷ a) s t ha hl =
-    let i = c .row * w + c .column in
-    ap (λ (l : List ℕ). mark w a l) (set-append-left s t i 1 (le-trans (place-lt w h (c .column) (c .row) (ha .0 .across) (ha .0 .down)) hl))
-    ∙ mark-append w h a (set s i 1) t (ha .1) (subst (λ (n : ℕ). w * h ≤ n) (sym (length-set s i 1)) hl)
+-- ---- as a run writes them: what a photograph shows, at each pixel's place, one after another
 
--- a cleared sheet, marked
-pub mark-cleared : (w h : ℕ) (a : List Pixel) (t : List ℕ) → 0 < w → Each (Inside w h) a → mark w a (replicate (w * h) 0 ++ t) ≡ sheet w h a ++ t
-mark-cleared w h a t pos ha =
-    mark-append w h a (replicate (w * h) 0) t ha (subst (λ (n : ℕ). w * h ≤ n) (sym (length-replicate (w * h) 0)) (le-refl (w * h)))
-    ∙ ap (λ (l : List ℕ). l ++ t) (mark-zeros w h a pos ha)
+unfoldable pub pasted : Photo → ℕ → List Pixel → List ℕ → List ℕ
+pasted p w [] s = s
+pasted p w (c ∷ cs) s = pasted p w cs (set s (c .row * w + c .column) (p (c .column) (c .row)))
 
--- ---- the copy as it is made after the sheet: the photograph's bytes where the sheet has a 1
+module _ (p : Photo) (w : ℕ) where
+  pub pasted-++ : (a b : List Pixel) (s : List ℕ) → pasted p w (a ++ b) s ≡ pasted p w b (pasted p w a s)
+  unfolding pasted
+  pasted-++ [] b s = refl
+  pasted-++ (c ∷ a) b s = pasted-++ a b (set s (c .row * w + c .column) (p (c .column) (c .row)))
 
-pub blank-copy : (w h : ℕ) (p : Photo) (a : List Pixel) (t : List ℕ) → table (w * h) (λ i. if eqb (getD (sheet w h a ++ t) i 0) 1 then p (i % w) (i / w) else 0) ≡ copy w h p a
-unfolding sheet copy
-blank-copy w h p a t =
-    table-ext (w * h) _ _
-    (λ i b. ap (λ (z : ℕ). if eqb z 1 then p (i % w) (i / w) else 0)
-    (List·getD-append (table (w * h) (λ k. bit (isRead (k % w) (k / w) a))) t 0 i (subst (λ (n : ℕ). i < n) (sym (length-table (w * h) _)) b)
-    ∙ getD-table (w * h) (λ k. bit (isRead (k % w) (k / w) a)) i 0 b)
-    ∙ settle (isRead (i % w) (i / w) a) (p (i % w) (i / w)))
-  where
-    settle : (b : Bool) (v : ℕ) → (if eqb (bit b) 1 then v else 0) ≡ (if b then v else 0)
-    settle true v = refl
-    settle false v = refl
+  pub length-pasted : (a : List Pixel) (s : List ℕ) → length (pasted p w a s) ≡ length s
+  unfolding pasted
+  length-pasted [] s = refl
+  length-pasted (c ∷ a) s = length-pasted a (set s (c .row * w + c .column) (p (c .column) (c .row))) ∙ length-set s (c .row * w + c .column) (p (c .column) (c .row))
 
--- ---- a marking run: the sheet is cleared, the step runs, the copy is made after the sheet
+  pasted-at : (a : List Pixel) (s : List ℕ) (h x y : ℕ) → Each (Inside w h) a → x < w → y < h → w * h ≤ length s
+      → getD (pasted p w a s) (y * w + x) 0 ≡ (if isRead x y a then p x y else getD s (y * w + x) 0)
+  unfolding pasted
+  pasted-at [] s h x y ha hx hy hl = refl
+  pasted-at (c ∷ a) s h x y ha hx hy hl =
+      pasted-at a (set s i v) h x y (ha .1) hx hy (subst (λ (n : ℕ). w * h ≤ n) (sym (length-set s i v)) hl)
+      ∙ settle (isRead x y a) (eqb x (c .column)) refl (eqb y (c .row)) refl
+    where
+      i : ℕ
+      i = c .row * w + c .column
 
-module _ {A : Type 0} (e : Scene) (p : Photo) (t : Look A) (pos : 0 < e .width) (safe : Each (Inside (e .width) (e .height)) (reads e p t)) where
-  pub marked-sheet : {r : A} (s : List ℕ) {s₁ s₂ : List ℕ} {m m′ : Meter} → s₁ ≡ replicate (e .width * e .height) 0 ++ drop (e .width * e .height) s → Runs e p t r s₁ s₂ m m′
-      → s₂ ≡ sheet (e .width) (e .height) (reads e p t) ++ drop (e .width * e .height) s
-  marked-sheet s cleared run =
-      run .marks ∙ ap (λ (l : List ℕ). mark (e .width) (reads e p t) l) cleared ∙ mark-cleared (e .width) (e .height) (reads e p t) (drop (e .width * e .height) s) pos safe
+      v : ℕ
+      v = p (c .column) (c .row)
 
-  pub blanked-copy : (s c : List ℕ) {s₂ c′ : List ℕ} → s₂ ≡ sheet (e .width) (e .height) (reads e p t) ++ drop (e .width * e .height) s
-      → c′ ≡ table (e .width * e .height) (λ i. if eqb (getD s₂ i 0) 1 then p (i % e .width) (i / e .width) else 0) ++ drop (e .width * e .height) c
-      → c′ ≡ copy (e .width) (e .height) p (reads e p t) ++ drop (e .width * e .height) c
-  blanked-copy s c marked made =
-      made
-      ∙ ap (λ (l : List ℕ). table (e .width * e .height) (λ i. if eqb (getD l i 0) 1 then p (i % e .width) (i / e .width) else 0) ++ drop (e .width * e .height) c) marked
-      ∙ ap (λ (l : List ℕ). l ++ drop (e .width * e .height) c) (blank-copy (e .width) (e .height) p (reads e p t) (drop (e .width * e .height) s))
+      settle : (b : Bool) (t : Bool) → eqb x (c .column) ≡ t → (u : Bool) → eqb y (c .row) ≡ u
+          → (if b then p x y else getD (set s i v) (y * w + x) 0) ≡ (if (t && u) || b then p x y else getD s (y * w + x) 0)
+      settle true true et true eu = refl
+      settle true true et false eu = refl
+      settle true false et u eu = refl
+      settle false true et true eu =
+          rw (eqb-true x (c .column) et, eqb-true y (c .row) eu)
+          (getD-set-same s i v 0 (le-trans (place-lt w h (c .column) (c .row) (ha .0 .across) (ha .0 .down)) hl))
+      settle false true et false eu =
+          getD-set-other s i (y * w + x) v 0
+          (λ q. eqb-false y (c .row) eu (sym (place-row w x y hx) ∙ ap (λ (j : ℕ). j / w) q ∙ place-row w (c .column) (c .row) (ha .0 .across)))
+      settle false false et u eu =
+          getD-set-other s i (y * w + x) v 0
+          (λ q. eqb-false x (c .column) et (sym (place-column w x y hx) ∙ ap (λ (j : ℕ). j % w) q ∙ place-column w (c .column) (c .row) (ha .0 .across)))
+
+  -- onto zeros
+  pasted-zeros : (h : ℕ) (a : List Pixel) → 0 < w → Each (Inside w h) a → pasted p w a (replicate (w * h) 0) ≡ copy w h p a
+  unfolding copy
+  pasted-zeros h a pos ha =
+      ext-getD 0 (pasted p w a (replicate (w * h) 0)) (copy w h p a) (long ∙ sym (length-copy w h p a))
+      (λ i b. let k : i < w * h = subst (λ (n : ℕ). i < n) long b in
+      ap (λ (n : ℕ). getD (pasted p w a (replicate (w * h) 0)) n 0) (sym (div-add-mod' i w))
+      ∙ pasted-at a (replicate (w * h) 0) h (i % w) (i / w) ha (mod-lt i pos) (row-lt w h i pos k) (subst (λ (n : ℕ). w * h ≤ n) (sym (length-replicate (w * h) 0)) (le-refl (w * h)))
+      ∙ ap (λ (z : ℕ). if isRead (i % w) (i / w) a then p (i % w) (i / w) else z)
+      (ap (λ (n : ℕ). getD (replicate (w * h) 0) n 0) (div-add-mod' i w) ∙ getD-replicate (w * h) i 0 0 k)
+      ∙ sym (getD-table (w * h) (λ i. if isRead (i % w) (i / w) a then p (i % w) (i / w) else 0) i 0 k))
+    where
+      long : length (pasted p w a (replicate (w * h) 0)) ≡ w * h
+      long = length-pasted a (replicate (w * h) 0) ∙ length-replicate (w * h) 0
+
+  -- a tail that no pixel reaches stays
+  pasted-append : (h : ℕ) (a : List Pixel) (s t : List ℕ) → Each (Inside w h) a → w * h ≤ length s → pasted p w a (s ++ t) ≡ pasted p w a s ++ t
+  unfolding pasted
+  pasted-append h [] s t ha hl = refl
+  pasted-append h (c ∷ a) s t ha hl =
+      let i = c .row * w + c .column in
+      let v = p (c .column) (c .row) in
+      ap (λ (l : List ℕ). pasted p w a l) (set-append-left s t i v (le-trans (place-lt w h (c .column) (c .row) (ha .0 .across) (ha .0 .down)) hl))
+      ∙ pasted-append h a (set s i v) t (ha .1) (subst (λ (n : ℕ). w * h ≤ n) (sym (length-set s i v)) hl)
+
+  -- onto a cleared buffer
+  pub pasted-cleared : (h : ℕ) (a : List Pixel) (t : List ℕ) → 0 < w → Each (Inside w h) a → pasted p w a (replicate (w * h) 0 ++ t) ≡ copy w h p a ++ t
+  pasted-cleared h a t pos ha =
+      pasted-append h a (replicate (w * h) 0) t ha (subst (λ (n : ℕ). w * h ≤ n) (sym (length-replicate (w * h) 0)) (le-refl (w * h)))
+      ∙ ap (λ (l : List ℕ). l ++ t) (pasted-zeros h a pos ha)

@@ -1,71 +1,57 @@
--- How a promise follows the code: a sample is taken or a callee runs a bound step, and what is left of the tree goes on to its end. A proof of a
--- function that samples uses these laws alone, and never looks at pixels or at what the meter holds. Assumes nothing.
+-- How a promise follows the code: a sample is taken or a callee runs a bound step, and what is left of the tree goes on to its end. These laws hold of every sampler. A proof
+-- of a function that samples uses them alone, and never looks at pixels or at what the state holds. Assumes nothing.
 use mathlib.Core.Path.{_≡_, refl, sym, ap, _∙_}
-use Prim.Native.Nat.{ℕ}
-use mathlib.Core.List.{List, []}
 use Rattle.sampling.specs.Photographs.{Photo}
 use Rattle.sampling.specs.declared.Scene.{Scene}
 use Rattle.pixel.specs.declared.SourcePixel.{SourcePixel}
 use Rattle.sampling.specs.declared.Sampled.{Sampled}
-use Rattle.sampling.specs.declared.Spot.{Spot}
-use Rattle.sampling.specs.Sampling.{sceneSpot, touched, shade}
+use Rattle.sampling.specs.Sampling.{sceneSpot}
+use Rattle.sampling.specs.Marks.{Buffers, Shows}
 use Rattle.look.specs.declared.Meter.{Meter}
-use Rattle.look.specs.Meters.{tick, ticks}
-use Rattle.look.specs.Look.{Look, done, sample, look, _>>=_, value, reads, taken}
-use Rattle.sampling.specs.Marks.{mark, Shows}
-use Rattle.look.specs.Run.{Runs}
-use Rattle.look.proofs.Counts.{ticks-add}
-use Rattle.look.proofs.Trees.{value-bind, reads-bind, taken-bind, mark-++}
+use Rattle.look.specs.Meters.{tick}
+use Rattle.look.specs.Look.{Look, done, sample, look, _>>=_}
+use Rattle.look.specs.Run.{Ran, Sampler, run, state, sampler, Runs}
 
--- t, with the sheet s and the meter m, has come to u with s′ and m′: what is left of t is u
-pub record Leads {A : Type 0} (e : Scene) (p : Photo) (t : Look A) (s : List ℕ) (m : Meter) (u : Look A) (s′ : List ℕ) (m′ : Meter) : Type 0 where
-  pub answer : value e p t ≡ value e p u
-  pub marks : mark (e .width) (reads e p t) s ≡ mark (e .width) (reads e p u) s′
-  pub counts : ticks (taken e p t) m ≡ ticks (taken e p u) m′
+-- a bound step: the second is run from where the first ends
+pub run-bind : {S A B : Type 0} (ask : Sampler S) (t : Look A) (f : A → Look B) (s : S)
+    → run ask (t >>= f) s ≡ run ask (f (run ask t s .answer)) (run ask t s .state)
+unfolding run _>>=_
+run-bind ask (done a) f s = refl
+run-bind ask (sample q k) f s = run-bind ask (k (ask q s .answer)) f (ask q s .state)
 
-module _ {A : Type 0} (e : Scene) (p : Photo) where
-  pub start : (t : Look A) (s : List ℕ) (m : Meter) → Leads e p t s m t s m
-  start t s m = record { answer = refl; marks = refl; counts = refl }
+-- t from s has come to u with s′: what is left of t is u
+pub record Leads {S A : Type 0} (ask : Sampler S) (t : Look A) (s : S) (u : Look A) (s′ : S) : Type 0 where
+  pub leads : run ask t s ≡ run ask u s′
 
-  pub then : {t u v : Look A} {s s′ s″ : List ℕ} {m m′ m″ : Meter} → Leads e p t s m u s′ m′ → Leads e p u s′ m′ v s″ m″ → Leads e p t s m v s″ m″
-  then f g = record { answer = f .answer ∙ g .answer; marks = f .marks ∙ g .marks; counts = f .counts ∙ g .counts }
+module _ {S A : Type 0} (ask : Sampler S) where
+  pub start : (t : Look A) (s : S) → Leads ask t s t s
+  start t s = record { leads = refl }
+
+  pub then : {t u v : Look A} {s s′ s″ : S} → Leads ask t s u s′ → Leads ask u s′ v s″ → Leads ask t s v s″
+  then f g = record { leads = f .leads ∙ g .leads }
 
   -- the end
-  pub end : {t : Look A} {a : A} {s s′ : List ℕ} {m m′ : Meter} → Leads e p t s m (done a) s′ m′ → Runs e p t a s s′ m m′
-  unfolding value reads taken mark ticks
-  end f = record { answer = sym (f .answer); marks = sym (f .marks); counts = sym (f .counts) }
+  pub end : {t : Look A} {a : A} {s s′ : S} → Leads ask t s (done a) s′ → Runs ask t a s s′
+  unfolding run
+  end f = record { runs = f .leads }
 
   -- a call ran all that is left
-  pub ended : {t u : Look A} {a : A} {s s′ s″ : List ℕ} {m m′ m″ : Meter} → Leads e p t s m u s′ m′ → Runs e p u a s′ s″ m′ m″ → Runs e p t a s s″ m m″
-  ended f h = record { answer = h .answer ∙ sym (f .answer); marks = h .marks ∙ sym (f .marks); counts = h .counts ∙ sym (f .counts) }
+  pub ended : {t u : Look A} {a : A} {s s′ s″ : S} → Leads ask t s u s′ → Runs ask u a s′ s″ → Runs ask t a s s″
+  ended f h = record { runs = f .leads ∙ h .runs }
 
-module _ {A B : Type 0} (e : Scene) (p : Photo) where
+module _ {S A B : Type 0} (ask : Sampler S) where
   -- a call ran the first step
-  pub called : (t : Look A) (f : A → Look B) {r : A} {s s′ : List ℕ} {m m′ : Meter} → Runs e p t r s s′ m m′ → Leads e p (t >>= f) s m (f r) s′ m′
-  called t f {r} {s} {s′} {m} {m′} h = record {
-    answer = value-bind e p t f ∙ ap (λ (a : A). value e p (f a)) (sym (h .answer));
-    marks = ap (λ (l : List _). mark (e .width) l s) (reads-bind e p t f)
-        ∙ mark-++ (e .width) (reads e p t) (reads e p (f (value e p t))) s
-        ∙ ap (λ (l : List ℕ). mark (e .width) (reads e p (f (value e p t))) l) (sym (h .marks))
-        ∙ ap (λ (a : A). mark (e .width) (reads e p (f a)) s′) (sym (h .answer));
-    counts = ap (λ (n : ℕ). ticks n m) (taken-bind e p t f)
-        ∙ ticks-add (taken e p t) (taken e p (f (value e p t))) m
-        ∙ ap (λ (l : Meter). ticks (taken e p (f (value e p t))) l) (sym (h .counts))
-        ∙ ap (λ (a : A). ticks (taken e p (f a)) m′) (sym (h .answer));
-  }
+  pub called : (t : Look A) (f : A → Look B) {r : A} {s s′ : S} → Runs ask t r s s′ → Leads ask (t >>= f) s (f r) s′
+  called t f {s = s} h = record { leads = run-bind ask t f s ∙ ap (λ (z : Ran S A). run ask (f (z .answer)) (z .state)) (h .runs) }
 
-module _ (e : Scene) (p : Photo) where
-  -- a sample falls at a spot, shows something there, and is counted
-  pub shown : (q : SourcePixel) {at : Spot} → at ≡ sceneSpot e q → {r : Sampled} {s s′ : List ℕ} → Shows p (e .width) at r s s′ → {m m′ : Meter} → m′ ≡ tick m → Runs e p (look q) r s s′ m m′
-  unfolding value reads taken ticks mark
-  shown q {at} hat {r} {s} h hm = record {
-    answer = h .answer ∙ ap (λ (z : Spot). shade p z) hat;
-    marks = h .marks ∙ ap (λ (z : Spot). mark (e .width) (touched z) s) hat ∙ sym (mark-++ (e .width) (touched (sceneSpot e q)) [] s);
-    counts = hm;
-  }
-
-module _ {A : Type 0} (e : Scene) (p : Photo) where
+module _ {S A : Type 0} (ask : Sampler S) where
   -- a sample was taken
-  pub sampled : (q : SourcePixel) (k : Sampled → Look A) {r : Sampled} {s s′ : List ℕ} {m m′ : Meter} → Runs e p (look q) r s s′ m m′ → Leads e p (sample q k) s m (k r) s′ m′
+  pub sampled : (q : SourcePixel) (k : Sampled → Look A) {r : Sampled} {s s′ : S} → Runs ask (look q) r s s′ → Leads ask (sample q k) s (k r) s′
   unfolding _>>=_
-  sampled q k h = called e p (look q) k h
+  sampled q k h = called ask (look q) k h
+
+-- the refinement's sampler: what it shows, marks and copies, and one more that is counted
+pub shown : (e : Scene) (p : Photo) (q : SourcePixel) {r : Sampled} {b b′ : Buffers} {m m′ : Meter} → Shows p (e .width) (sceneSpot e q) r b b′ → m′ ≡ tick m
+    → Runs (sampler e p) (look q) r (state (b .sheet) (b .copy) m) (state (b′ .sheet) (b′ .copy) m′)
+unfolding run sampler
+shown e p q h hm = record { runs = sym (rw (h .answer, h .marks, hm)) }

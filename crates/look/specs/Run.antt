@@ -1,16 +1,50 @@
--- What a function that samples a photograph promises. Definitions only; its laws are in proofs/Steps.
+-- How a step is run: by a sampler, from a state. A sampler takes a place and a state to what a sample there shows and the next state. And what a function that samples
+-- promises, whatever the sampler. Definitions only; the laws are in proofs/Steps, and what a run by the refinement's sampler comes to is in proofs/Meaning.
 use mathlib.Core.Path.{_≡_}
 use Prim.Native.Nat.{ℕ}
 use mathlib.Core.List.{List}
+use Rattle.pixel.specs.declared.SourcePixel.{SourcePixel}
 use Rattle.sampling.specs.Photographs.{Photo}
-use Rattle.sampling.specs.Marks.{mark}
+use Rattle.sampling.specs.Sampling.{sceneSpot, shade}
+use Rattle.sampling.specs.Marks.{Buffers, buffers, marked}
 use Rattle.sampling.specs.declared.Scene.{Scene}
+use Rattle.sampling.specs.declared.Sampled.{Sampled}
 use Rattle.look.specs.declared.Meter.{Meter}
-use Rattle.look.specs.Meters.{ticks}
-use Rattle.look.specs.Look.{Look, value, reads, taken}
+use Rattle.look.specs.Meters.{tick}
+use Rattle.look.specs.Look.{Look, done, sample}
 
--- The step t, in the scene e over the photograph p, ends in r. It takes the sheet from s to s′, and the meter from m to m′.
-pub record Runs {A : Type 0} (e : Scene) (p : Photo) (t : Look A) (r : A) (s s′ : List ℕ) (m m′ : Meter) : Type 0 where
-  pub answer : r ≡ value e p t
-  pub marks : s′ ≡ mark (e .width) (reads e p t) s
-  pub counts : m′ ≡ ticks (taken e p t) m
+pub record Ran (S A : Type 0) : Type 0 where
+  pub answer : A
+  pub state : S
+
+abbrev pub ran : {S A : Type 0} → A → S → Ran S A
+ran a s = record { answer = a; state = s }
+
+abbrev pub Sampler : Type 0 → Type 0
+Sampler S = SourcePixel → S → Ran S Sampled
+
+unfoldable pub run : {S A : Type 0} → Sampler S → Look A → S → Ran S A
+run ask (done a) s = ran a s
+run ask (sample q k) s = run ask (k (ask q s .answer)) (ask q s .state)
+
+-- Run by the sampler from the state s, the step t ends in a with the state s′.
+pub record Runs {S A : Type 0} (ask : Sampler S) (t : Look A) (a : A) (s s′ : S) : Type 0 where
+  pub runs : run ask t s ≡ ran a s′
+
+-- ---- the refinement's sampler
+
+-- what it changes as it goes: the mark sheet, the copy, and the count of samples
+pub record State : Type 0 where
+  pub sheet : List ℕ
+  pub copy : List ℕ
+  pub meter : Meter
+
+abbrev pub state : List ℕ → List ℕ → Meter → State
+state s c m = record { sheet = s; copy = c; meter = m }
+
+-- the buffers as they are then, and one more sample counted
+abbrev pub after : Buffers → Meter → State
+after b m = state (b .sheet) (b .copy) (tick m)
+
+unfoldable pub sampler : Scene → Photo → Sampler State
+sampler e p q s = ran (shade p (sceneSpot e q)) (after (marked p (e .width) (sceneSpot e q) (buffers (s .sheet) (s .copy))) (s .meter))

@@ -1,9 +1,9 @@
-// A sample of the refinement: through the camera, its pixels marked, and counted.
+// A sample of the refinement: through the camera, its pixels marked and copied, and counted.
 ghost use mathlib.Core.Path.{_≡_};
 ghost use Rattle.sampling.specs.Photographs.{photo};
 ghost use Rattle.look.specs.Meters.{tick};
 ghost use Rattle.look.specs.Look.{look};
-ghost use Rattle.look.specs.Run.{Runs};
+ghost use Rattle.look.specs.Run.{state, sampler, Runs};
 use pixel::SourcePixel;
 use sampling::Sampled;
 use sampling::Scene;
@@ -33,19 +33,21 @@ impl Meter {
     }
 }
 
-// A sample in a scene, its pixels marked.
+// A sample in a scene, its pixels marked and copied.
 pub fn sample_source(
     bytes: &[u8],
     stride: u32,
     scene: Scene,
     sheet: &mut [u8],
+    copy: &mut [u8],
     meter: Meter,
     p: SourcePixel,
 ) -> Shown
-    ensures { λ r. ⌜ Runs scene (photo (now (bytes .entry)) stride) (look p) (r .sampled) (now (sheet .entry)) (now (sheet .exit)) meter (r .meter) ⌝ }
+    ensures { λ r. ⌜ Runs (sampler scene (photo (now (bytes .entry)) stride)) (look p) (r .sampled)
+        (state (now (sheet .entry)) (now (copy .entry)) meter)
+        (state (now (sheet .exit)) (now (copy .exit)) (r .meter)) ⌝ }
 {
-    let spot = sampling::source_spot(scene, p);
-    let sampled = sampling::show(bytes, stride, scene.width, sheet, spot);
+    let sampled = sampling::sample_at(bytes, stride, scene, sheet, copy, p);
     let counted = meter.ticked();
     Shown {
         sampled,

@@ -1,54 +1,55 @@
--- What a marking call comes to: a refusal that leaves sheet and copy, or a run on a cleared sheet and the copy made after it. Assumes nothing.
-use mathlib.Core.Path.{_≡_, sym, _∙_, subst}
+-- What a marking call comes to: a refusal that leaves sheet and copy, or a run on a cleared sheet and a cleared copy. Assumes nothing.
+use mathlib.Core.Path.{_≡_, sym, ap, _∙_, subst}
 use Prim.Native.Nat.{ℕ, _*_}
 use mathlib.Core.Bool.{true}
 use mathlib.Core.List.{List, _++_}
 use lib.ListN.{length, drop, replicate}
 use borrow.Author.Tests.{eq-eqb, ne-eqb}
 use Rattle.number.specs.Numbers as number
-use Rattle.consts.specs.declared.Settings.{Settings}
-use Rattle.pixel.specs.declared.SourcePixel.{SourcePixel}
 use Rattle.sampling.specs.Photographs.{Photo, goodSize}
 use Rattle.sampling.specs.declared.Scene.{Scene}
 use Rattle.sampling.proofs.Inside.{size-checked}
 use Rattle.look.specs.declared.Meter.{Meter}
 use Rattle.look.specs.Look.{Look}
-use Rattle.look.specs.Run.{Runs}
-use Rattle.look.proofs.Inside.{reads-inside}
-use Rattle.look.proofs.Sheets.{marked-sheet, blanked-copy}
+use Rattle.look.specs.Run.{Ran, ran, run, State, state, sampler, Runs}
+use Rattle.look.proofs.Meaning.{run-cleared}
 use Rattle.rounds.specs.declared.Answer.{Answer}
-use Rattle.rounds.specs.Rounds.{refused, rounds}
-use Rattle.refine.specs.Refine.{Request, Photograph, sourceCorners, sceneOf, shown, refinement, result, readsOf}
-use Rattle.marking.specs.Blanking.{blanked, RunsMarked}
-use Rattle.marking.specs.Marking.{markingEntry, markingNumber, refineMarking, sheetAfter, copyAfter, Marks}
+use Rattle.rounds.specs.Rounds.{refused}
+use Rattle.refine.specs.declared.Request.{Request}
+use Rattle.refine.specs.Refine.{Photograph, sceneOf, shown, refinement, result, readsOf}
+use Rattle.marking.specs.Marking.{markingEntry, markingNumber, refineMarking, sheetAfter, copyAfter, Marks, RunsMarked}
 
--- behind the entry checks: the sheet is cleared, the step runs, the copy is made after the sheet
-pub ran-marked : {A : Type 0} (e : Scene) (p : Photo) (t : Look A) (s c : List ℕ) {r : A} {s₁ s′ c′ : List ℕ} {m m′ : Meter} → goodSize (e .width) (e .height) ≡ true
-    → s₁ ≡ replicate (e .width * e .height) 0 ++ drop (e .width * e .height) s → Runs e p t r s₁ s′ m m′
-    → c′ ≡ blanked (e .width) (e .height) p s′ ++ drop (e .width * e .height) c → RunsMarked e p t r s s′ c c′
-unfolding blanked
-ran-marked e p t s c good cleared ran made =
-    let size = size-checked (e .width) (e .height) good in
-    let inside = reads-inside e size p t in
-    let marked = marked-sheet e p t (size .wide) inside s cleared ran in
-    record { answer = ran .answer; sheet = marked; copy = blanked-copy e p t (size .wide) inside s c marked made }
+-- behind the entry checks: sheet and copy are cleared, and the step runs
+pub ran-marked : {A : Type 0} (e : Scene) (p : Photo) (t : Look A) (s c : List ℕ) {r : A} {s₁ c₁ s′ c′ : List ℕ} {m m′ : Meter} {n : ℕ} → goodSize (e .width) (e .height) ≡ true
+    → n ≡ e .width * e .height → s₁ ≡ replicate n 0 ++ drop n s → c₁ ≡ replicate n 0 ++ drop n c
+    → Runs (sampler e p) t r (state s₁ c₁ m) (state s′ c′ m′) → RunsMarked e p t r s s′ c c′
+ran-marked {A} e p t s c {r} {s′ = s′} {c′ = c′} {m = m} {m′ = m′} good area sheet copy went =
+    let n = e .width * e .height in
+    let cleared = run-cleared e p (size-checked (e .width) (e .height) good) t (drop n s) (drop n c) m in
+    let ended : ran r (state s′ c′ m′) ≡ run (sampler e p) t (state (replicate n 0 ++ drop n s) (replicate n 0 ++ drop n c) m) = sym (rw (sheet, copy, area) at (went .runs)) in
+    let whole = ended ∙ cleared in
+    record {
+      answer = ap (λ (z : Ran State A). z .answer) whole;
+      sheet = ap (λ (z : Ran State A). z .state .sheet) whole;
+      copy = ap (λ (z : Ran State A). z .state .copy) whole;
+    }
 
 -- ---- a call, by its entry number
 
-module _ (t : Settings) (r : Request) (p : Photograph) (s c : List ℕ) where
-  pub refuses : {n : ℕ} {a : Answer} → n ≡ markingEntry r p (length s) (length c) → (n ≡ number.answer → ⊥) → a ≡ refused n → Marks t r p a s s c c
+module _ (r : Request) (ms : List ℕ) (p : Photograph) (s c : List ℕ) where
+  pub refuses : {n : ℕ} {a : Answer} → n ≡ markingEntry r ms p (length s) (length c) → (n ≡ number.answer → ⊥) → a ≡ refused n → Marks r ms p a s s c c
   unfolding markingNumber refineMarking sheetAfter copyAfter
   refuses is other h =
-      let not-none = ne-eqb (markingEntry r p (length s) (length c)) number.answer (λ z. other (is ∙ z)) in
+      let not-none = ne-eqb (markingEntry r ms p (length s) (length c)) number.answer (λ z. other (is ∙ z)) in
       record { answer = rw (not-none, sym is) h; sheet = rw not-none; copy = rw not-none }
 
-  pub answers : {q : List SourcePixel} {a : Answer} {s′ c′ : List ℕ} → markingEntry r p (length s) (length c) ≡ number.answer → q ≡ sourceCorners r
-      → RunsMarked (sceneOf r) (shown p) (rounds t (r .grid) (r .inverted) q) a s s′ c c′ → Marks t r p a s s′ c c′
-  unfolding markingNumber refineMarking sheetAfter copyAfter result readsOf refinement
-  answers passes h ran =
-      let none = eq-eqb (markingEntry r p (length s) (length c)) number.answer passes in
-      record { answer = rw (none, sym h) (ran .answer); sheet = rw (none, sym h) (ran .sheet); copy = rw (none, sym h) (ran .copy) }
+  pub answers : {a : Answer} {s′ c′ : List ℕ} → markingEntry r ms p (length s) (length c) ≡ number.answer
+      → RunsMarked (sceneOf r) (shown p) (refinement r ms) a s s′ c c′ → Marks r ms p a s s′ c c′
+  unfolding markingNumber refineMarking sheetAfter copyAfter result readsOf
+  answers passes ran =
+      let none = eq-eqb (markingEntry r ms p (length s) (length c)) number.answer passes in
+      record { answer = rw none (ran .answer); sheet = rw none (ran .sheet); copy = rw none (ran .copy) }
 
--- with other names for the same settings
-pub same-settings : {t u : Settings} {r : Request} {p : Photograph} {a : Answer} {s s′ c c′ : List ℕ} → t ≡ u → Marks t r p a s s′ c c′ → Marks u r p a s s′ c c′
-same-settings {t} {u} {r} {p} {a} {s} {s′} {c} {c′} same marks = subst (λ (v : Settings). Marks v r p a s s′ c c′) same marks
+-- of another name for the same request
+pub same-request : {r q : Request} {ms : List ℕ} {p : Photograph} {a : Answer} {s s′ c c′ : List ℕ} → r ≡ q → Marks r ms p a s s′ c c′ → Marks q ms p a s s′ c c′
+same-request {r} {q} {ms} {p} {a} {s} {s′} {c} {c′} same marks = subst (λ (v : Request). Marks v ms p a s s′ c c′) same marks

@@ -1,5 +1,4 @@
--- The entry checks of a marking call: what those of the refinement call say of the photograph, that the seventh comes behind them, and which calls pass all.
--- Why: the number of the first check that fails is 0 only where all pass, since no check has the number 0. Assumes nothing.
+-- The entry checks of a marking call: the seventh comes behind those of the refinement call, and which calls pass all. Assumes nothing.
 use mathlib.Core.Path.{_≡_, refl, sym, ap, _∙_, subst}
 use Prim.Native.Nat.{ℕ, zero, suc, _+_, _-_, _*_, _≤_, _<_}
 use native.Mathlib.Nat.{mul-comm, suc-mul, le-refl}
@@ -7,23 +6,18 @@ use native.Mathlib.Omega.{arith}
 use mathlib.Core.Bool.{Bool, true, false, not, _&&_}
 use mathlib.Core.List.{List, [], _∷_, _++_}
 use lib.Dec.{leb, eqb, eqb·suc-zero}
-use lib.ListN.{length, drop}
 use borrow.Author.Tests.{leb-true, le-leb, lt-leb, ne-eqb, not-true}
 use Rattle.number.specs.Numbers as number
 use Rattle.ieee.specs.Floats.{if_then_else_}
 use Rattle.camera.proofs.Tests.{both}
-use Rattle.sampling.specs.Photographs.{goodSize, goodPhotograph}
+use Rattle.sampling.specs.Photographs.{goodPhotograph}
 use Rattle.sampling.proofs.Inside.{Sized}
-use Rattle.grid.specs.Grids.{bits, goodGrid}
-use Rattle.refine.specs.Refine.{Request, Photograph, Check, check, first, entryChecks, entry}
+use Rattle.refine.specs.declared.Request.{Request}
+use Rattle.refine.specs.Refine.{Photograph, Check, check, first, entryChecks, entry}
+use Rattle.refine.proofs.Checks.{passed}
 use Rattle.marking.specs.Marking.{area, markingEntry}
 
 -- ---- a list of checks
-
--- where the number is 0 the first check passes, and so do those behind it
-passed : (b : Bool) (m n : ℕ) → (if b then m else suc n) ≡ number.answer → (b ≡ true) × (m ≡ number.answer)
-passed true m n h = (refl, h)
-passed false m n h = absurd (omega arith)
 
 -- none of the checks has the number 0
 abbrev numbered : List Check → Bool
@@ -50,32 +44,6 @@ behind (suc n) m h = absurd (never (rw (eqb·suc-zero n) at h))
     never : suc n ≡ 0 → ⊥
     never e = omega arith
 
--- ---- checks 1 to 6
-
-module _ (r : Request) (p : Photograph) (enters : entry r p ≡ number.answer) where
-  -- checks 1 and 2 pass, and so do those behind them
-  pub photograph-passes : (goodSize (r .width) (r .height) ≡ true) × (goodPhotograph (r .width) (r .height) (p .stride) (length (p .bytes)) ≡ true)
-      × (first (drop 2 (entryChecks r p)) ≡ number.answer)
-  unfolding entry
-  photograph-passes =
-      let one = passed (goodSize (r .width) (r .height)) _ 0 enters in
-      let two = passed (goodPhotograph (r .width) (r .height) (p .stride) (length (p .bytes))) _ 1 (one .1) in
-      (one .0, two .0, two .1)
-
-  -- and so does check 3: a side has two modules at least
-  pub two-modules : 2 ≤ r .grid .dim
-  unfolding goodGrid
-  two-modules =
-      let d = r .grid .dim in
-      let grid = passed (goodGrid (r .grid)) _ 2 (photograph-passes .2) .0 in
-      let sides = both (leb 2 d && leb d 177 && leb (d * d) (length (r .grid .modules))) (bits (d * d) (r .grid .modules)) grid .0 in
-      leb-true 2 d (both (leb 2 d) (leb d 177) (both (leb 2 d && leb d 177) (leb (d * d) (length (r .grid .modules))) sides .0) .0)
-
-  -- another photograph passes them all where it passes check 2
-  pub other-photograph : (q : Photograph) → goodPhotograph (r .width) (r .height) (q .stride) (length (q .bytes)) ≡ true → entry r q ≡ number.answer
-  unfolding entry
-  other-photograph q good = rw (photograph-passes .0, good) (photograph-passes .2)
-
 -- width × height bytes or more, in rows of width bytes, pass check 2
 pub good-rows : (w h n : ℕ) → Sized w h → w * h ≤ n → goodPhotograph w h w n ≡ true
 unfolding goodPhotograph
@@ -88,33 +56,33 @@ good-rows w h n size enough =
 
 -- ---- check 7
 
-module _ (r : Request) (p : Photograph) (s c : ℕ) where
+module _ (r : Request) (ms : List ℕ) (p : Photograph) (s c : ℕ) where
   -- it comes behind the others
-  pub marking-entry : markingEntry r p s c
-      ≡ (if eqb (entry r p) number.answer then if leb (area r) s && leb (area r) c then number.answer else number.sheet else entry r p)
+  pub marking-entry : markingEntry r ms p s c
+      ≡ (if eqb (entry r ms p) number.answer then if leb (area r) s && leb (area r) c then number.answer else number.sheet else entry r ms p)
   unfolding markingEntry entry
-  marking-entry = one-more (entryChecks r p) (check number.sheet (leb (area r) s && leb (area r) c)) refl
+  marking-entry = one-more (entryChecks r ms p) (check number.sheet (leb (area r) s && leb (area r) c)) refl
 
   -- a call that passes all passes those of the refinement call, and its sheet and copy are long enough
-  pub entered : markingEntry r p s c ≡ number.answer → (entry r p ≡ number.answer) × (area r ≤ s) × (area r ≤ c)
+  pub entered : markingEntry r ms p s c ≡ number.answer → (entry r ms p ≡ number.answer) × (area r ≤ s) × (area r ≤ c)
   entered h =
-      let six = behind (entry r p) _ (sym marking-entry ∙ h) in
+      let six = behind (entry r ms p) _ (sym marking-entry ∙ h) in
       let seven = both (leb (area r) s) (leb (area r) c) (passed (leb (area r) s && leb (area r) c) number.answer 6 (six .1) .0) in
       (six .0, leb-true (area r) s (seven .0), leb-true (area r) c (seven .1))
 
   -- and such a call passes all
-  pub enters-marking : entry r p ≡ number.answer → area r ≤ s → area r ≤ c → markingEntry r p s c ≡ number.answer
+  pub enters-marking : entry r ms p ≡ number.answer → area r ≤ s → area r ≤ c → markingEntry r ms p s c ≡ number.answer
   enters-marking h hs hc = marking-entry ∙ rw (h, le-leb (area r) s hs, le-leb (area r) c hc)
 
   -- ---- the number, as the code comes to it
 
   -- that of one of the first six
-  pub refused-before : {n : ℕ} → n ≡ entry r p → (n ≡ number.answer → ⊥) → n ≡ markingEntry r p s c
-  refused-before is other = is ∙ sym (marking-entry ∙ rw (ne-eqb (entry r p) number.answer (λ z. other (is ∙ z))))
+  pub refused-before : {n : ℕ} → n ≡ entry r ms p → (n ≡ number.answer → ⊥) → n ≡ markingEntry r ms p s c
+  refused-before is other = is ∙ sym (marking-entry ∙ rw (ne-eqb (entry r ms p) number.answer (λ z. other (is ∙ z))))
 
   -- that of the seventh, by the sheet or by the copy
-  pub short-sheet : entry r p ≡ number.answer → s < area r → number.sheet ≡ markingEntry r p s c
+  pub short-sheet : entry r ms p ≡ number.answer → s < area r → number.sheet ≡ markingEntry r ms p s c
   short-sheet h short = sym (marking-entry ∙ rw (h, lt-leb (area r) s short))
 
-  pub short-copy : entry r p ≡ number.answer → area r ≤ s → c < area r → number.sheet ≡ markingEntry r p s c
+  pub short-copy : entry r ms p ≡ number.answer → area r ≤ s → c < area r → number.sheet ≡ markingEntry r ms p s c
   short-copy h long short = sym (marking-entry ∙ rw (h, le-leb (area r) s long, lt-leb (area r) c short))

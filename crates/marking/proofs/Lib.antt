@@ -1,5 +1,4 @@
 -- What belongs to no one function of `marking`.
-pub mod Blanking
 pub mod Entered
 pub mod Calls
 pub mod Demand3

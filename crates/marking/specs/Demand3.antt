@@ -1,5 +1,5 @@
 -- Demand 3: what two marking calls over one request tell of each other, as they return and leave the sheets and copies that they were lent.
--- Definitions only: `demand-3` in proofs/Demand3 proves it of all settings and every request, so with and without a camera, refused behind the entry checks or not.
+-- Definitions only: `demand-3` in proofs/Demand3 proves it of every request, so with and without a camera, refused behind the entry checks or not.
 use mathlib.Core.Path.{_≡_}
 use mathlib.Core.Logic.{_↔_}
 use Prim.Native.Nat.{ℕ, _+_, _*_, _≤_, _<_}
@@ -8,24 +8,15 @@ use mathlib.Core.List.{List}
 use lib.ListN.{length, getD, take, drop}
 use Rattle.number.specs.Numbers as number
 use Rattle.ieee.specs.Floats.{if_then_else_}
-use Rattle.consts.specs.declared.Settings.{Settings}
 use Rattle.sampling.specs.Photographs.{Pixel}
 use Rattle.look.specs.Sheets.{isRead, bit}
-use Rattle.grid.specs.Grids.{gridOf}
 use Rattle.rounds.specs.declared.Answer.{Answer}
-use Rattle.refine.specs.Refine.{Request, request, Photograph, shown, readsOf}
+use Rattle.refine.specs.declared.Request.{Request}
+use Rattle.refine.specs.Refine.{Photograph, cells, shown, readsOf}
 use Rattle.marking.specs.Marking.{area, markingEntry, Marks}
 
--- the request, with these modules lent for its grid
-abbrev pub lent : Request → List ℕ → Request
-lent r modules = request (r .width) (r .height) (gridOf (r .grid .dim) modules) (r .sx) (r .sy) (r .corners) (r .inverted) (r .view)
-
--- how many modules its grid has
-abbrev pub cells : Request → ℕ
-cells r = r .grid .dim * r .grid .dim
-
--- The request is what all calls share: width, height, rough corners, scales, grid, polarity and camera.
-module _ (t : Settings) (r : Request) where
+-- The request and its label's modules are what all calls share: width, height, rough corners, scales, grid, polarity, camera and settings.
+module _ (r : Request) (grid : List ℕ) where
   -- A marking call that passes the entry checks and has ended as its contract says. Its own are the photograph with its stride and the bytes between rows, the bytes
   -- behind the grid's modules, and what sheet and copy held before.
   pub record Call : Type 0 where
@@ -36,13 +27,13 @@ module _ (t : Settings) (r : Request) where
     pub sheet′ : List ℕ
     pub copy : List ℕ
     pub copy′ : List ℕ
-    pub same-grid : take (cells r) modules ≡ take (cells r) (r .grid .modules)
-    pub ended : Marks t (lent r modules) photograph answer sheet sheet′ copy copy′
-    pub passes : markingEntry (lent r modules) photograph (length sheet) (length copy) ≡ number.answer
+    pub same-grid : take (cells r) modules ≡ grid
+    pub ended : Marks r modules photograph answer sheet sheet′ copy copy′
+    pub passes : markingEntry r modules photograph (length sheet) (length copy) ≡ number.answer
 
   -- the pixels that the definition lists as read
   abbrev pub readsIn : Call → List Pixel
-  readsIn a = readsOf t (lent r (a .modules)) (a .photograph)
+  readsIn a = readsOf r (a .modules) (a .photograph)
 
   -- a pixel's byte in a sheet or a copy
   abbrev pub at : List ℕ → ℕ → ℕ → ℕ
@@ -79,4 +70,4 @@ module _ (t : Settings) (r : Request) where
     pub copy-again : (a b : Call) → OverTheCopy a b → SameMarks a b
     -- and the blanked copy passes the entry checks, with a sheet and a copy that are long enough
     pub copy-passes : (a : Call) (q : Photograph) (s c : ℕ) → q .stride ≡ r .width → area r ≤ length (q .bytes) → area r ≤ s → area r ≤ c
-        → markingEntry (lent r (a .modules)) q s c ≡ number.answer
+        → markingEntry r (a .modules) q s c ≡ number.answer

@@ -1,4 +1,3 @@
 -- What the contracts of `marking` cite, and demand 3.
-pub mod Blanking
 pub mod Marking
 pub mod Demand3

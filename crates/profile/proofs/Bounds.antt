@@ -2,7 +2,6 @@
 use mathlib.Core.Path.{_≡_, subst}
 use Prim.Native.Nat.{ℕ, zero, suc, _+_, _*_, _≤_}
 use native.Mathlib.Omega.{arith}
-use mathlib.Core.Bool.{Bool}
 use mathlib.Core.List.{List, [], _∷_, _++_}
 use mathlib.Core.Option.{Option, none, some}
 use lib.Ieee.{Float}
@@ -20,6 +19,7 @@ use Rattle.pixel.specs.declared.Direction.{Direction}
 use Rattle.pixel.specs.declared.EdgePoint.{EdgePoint}
 use Rattle.profile.specs.declared.Located.{Located}
 use Rattle.profile.specs.declared.Located.the-variants.{Found, NoEdge}
+use Rattle.profile.specs.declared.Ray.{Ray}
 use Rattle.profile.specs.Profile.{stepped, gather, profile, pass, passed, projection, aitken, andThen, _>>=_, passes, localize}
 
 module _ (normal : Direction) (step : Float) where
@@ -36,30 +36,30 @@ module _ (normal : Direction) (step : Float) where
       each f (Luma v) = f v
       each f Outside = most-done {A = Option (List Float)} n none
 
-  module _ (settings : Settings) (inverted differs : Bool) where
-    pass-most : (c : SourcePixel) → AtMost 7 (pass settings normal step inverted differs c)
-    unfolding pass profile
-    pass-most c =
-        most-bind 7 0 (profile normal step c) (λ s. done (passed settings normal step inverted differs c s)) (gather-most c 7 0 [])
-        (λ s. most-done 0 (passed settings normal step inverted differs c s))
+module _ (settings : Settings) (ray : Ray) where
+  pass-most : (c : SourcePixel) → AtMost 7 (pass settings ray c)
+  unfolding pass profile
+  pass-most c =
+      most-bind 7 0 (profile (ray .normal) (ray .step) c) (λ s. done (passed settings ray c s)) (gather-most (ray .normal) (ray .step) c 7 0 [])
+      (λ s. most-done 0 (passed settings ray c s))
 
-    then-most : (n : ℕ) (f : EdgePoint → Look Located) → ((q : EdgePoint) → AtMost n (f q)) → (r : Located) → AtMost n (andThen f r)
-    unfolding andThen
-    then-most n f h NoEdge = most-done n NoEdge
-    then-most n f h (Found q) = h q
+  then-most : (n : ℕ) (f : EdgePoint → Look Located) → ((q : EdgePoint) → AtMost n (f q)) → (r : Located) → AtMost n (andThen f r)
+  unfolding andThen
+  then-most n f h NoEdge = most-done n NoEdge
+  then-most n f h (Found q) = h q
 
-    sevens : (n : ℕ) → 7 + 7 * n ≡ 7 * suc n
-    sevens n = omega arith
+  sevens : (n : ℕ) → 7 + 7 * n ≡ 7 * suc n
+  sevens n = omega arith
 
-    passes-most : (n : ℕ) (p : EdgePoint) (xs : List Float) → AtMost (7 * n) (passes settings normal step inverted differs n p xs)
-    unfolding passes _>>=_
-    passes-most zero p xs = most-done 0 (aitken normal step p xs)
-    passes-most (suc n) p xs =
-        let f : EdgePoint → Look Located = λ q. passes settings normal step inverted differs n q (xs ++ projection normal (q .pos) ∷ []) in
-        subst (λ (l : ℕ). AtMost l (passes settings normal step inverted differs (suc n) p xs)) (sevens n)
-        (most-bind 7 (7 * n) (pass settings normal step inverted differs (p .pos)) (andThen f) (pass-most (p .pos))
-        (then-most (7 * n) f (λ q. passes-most n q (xs ++ projection normal (q .pos) ∷ []))))
+  passes-most : (n : ℕ) (p : EdgePoint) (xs : List Float) → AtMost (7 * n) (passes settings ray n p xs)
+  unfolding passes _>>=_
+  passes-most zero p xs = most-done 0 (aitken (ray .normal) (ray .step) p xs)
+  passes-most (suc n) p xs =
+      let f : EdgePoint → Look Located = λ q. passes settings ray n q (xs ++ projection (ray .normal) (q .pos) ∷ []) in
+      subst (λ (l : ℕ). AtMost l (passes settings ray (suc n) p xs)) (sevens n)
+      (most-bind 7 (7 * n) (pass settings ray (p .pos)) (andThen f) (pass-most (p .pos))
+      (then-most (7 * n) f (λ q. passes-most n q (xs ++ projection (ray .normal) (q .pos) ∷ []))))
 
-    pub at-most-21 : (e : Scene) (p : Photo) (coarse : SourcePixel) → taken e p (localize settings normal step inverted differs coarse) ≤ 21
-    unfolding localize
-    at-most-21 e p coarse = taken-most e p 21 (localize settings normal step inverted differs coarse) (passes-most 3 (edgePoint coarse f0) [])
+  pub at-most-21 : (e : Scene) (p : Photo) → taken e p (localize settings ray) ≤ 21
+  unfolding localize
+  at-most-21 e p = taken-most e p 21 (localize settings ray) (passes-most 3 (edgePoint (ray .coarse) f0) [])

@@ -18,7 +18,7 @@ use Rattle.pixel.specs.declared.EdgePoint.{EdgePoint}
 use Rattle.sampling.specs.Photographs.{photo, photographNumber}
 use Rattle.sampling.specs.Sampling.{goodView}
 use Rattle.sampling.specs.declared.Sampled.the-variants.{Luma, Outside}
-use Rattle.sampling.specs.declared.View.{View}
+use Rattle.sampling.specs.declared.Scene.{Scene}
 use Rattle.look.specs.Look.{Look, done, sample, value, _>>=_ as _>>=ₗ_}
 use Rattle.profile.specs.declared.Gradients.{Gradients}
 use Rattle.profile.specs.declared.Peaked.{Peaked}
@@ -28,6 +28,7 @@ use Rattle.profile.specs.declared.Extrapolated.the-variants.{Settled, Mo
 use Rattle.profile.specs.declared.Located.{Located}
 use Rattle.profile.specs.declared.Located.the-variants.{Found, NoEdge}
 use Rattle.profile.specs.declared.PointAnswer.{PointAnswer}
+use Rattle.profile.specs.declared.Ray.{Ray}
 
 -- ---- the profile
 
@@ -101,13 +102,12 @@ unfoldable pub found : Direction → Float → SourcePixel → Peaked → Locate
 found normal step c NoPeak = NoEdge
 found normal step c (Peak offset weight) = Found (edgePoint (stepped normal step c offset) weight)
 
-unfoldable pub passed : Settings → Direction → Float → Bool → Bool → SourcePixel → Option (List Float) → Located
-passed s normal step inverted inwardDiffers c none = NoEdge
-passed s normal step inverted inwardDiffers c (some samples) = found normal step c (peak s inverted inwardDiffers samples)
+unfoldable pub passed : Settings → Ray → SourcePixel → Option (List Float) → Located
+passed s y c none = NoEdge
+passed s y c (some samples) = found (y .normal) (y .step) c (peak s (y .inverted) (y .«inward_differs») samples)
 
-unfoldable pub pass : Settings → Direction → Float → Bool → Bool → SourcePixel → Look Located
-pass s normal step inverted inwardDiffers c =
-    _>>=ₗ_ (profile normal step c) (λ samples. done (passed s normal step inverted inwardDiffers c samples))
+unfoldable pub pass : Settings → Ray → SourcePixel → Look Located
+pass s y c = _>>=ₗ_ (profile (y .normal) (y .step) c) (λ samples. done (passed s y c samples))
 
 -- ---- `localize_edge_point`: three passes, and where they tend
 
@@ -142,14 +142,14 @@ unfoldable pub _>>=_ : Look Located → (EdgePoint → Look Located) → Look Lo
 m >>= f = _>>=ₗ_ m (andThen f)
 
 -- n more passes, each around the point that the last one found; xs are the projections of the points so far
-unfoldable pub passes : Settings → Direction → Float → Bool → Bool → ℕ → EdgePoint → List Float → Look Located
-passes s normal step inverted inwardDiffers zero p xs = done (aitken normal step p xs)
-passes s normal step inverted inwardDiffers (suc n) p xs = do
-  q ← pass s normal step inverted inwardDiffers (p .pos)
-  passes s normal step inverted inwardDiffers n q (xs ++ projection normal (q .pos) ∷ [])
+unfoldable pub passes : Settings → Ray → ℕ → EdgePoint → List Float → Look Located
+passes s y zero p xs = done (aitken (y .normal) (y .step) p xs)
+passes s y (suc n) p xs = do
+  q ← pass s y (p .pos)
+  passes s y n q (xs ++ projection (y .normal) (q .pos) ∷ [])
 
-unfoldable pub localize : Settings → Direction → Float → Bool → Bool → SourcePixel → Look Located
-localize s normal step inverted inwardDiffers coarse = passes s normal step inverted inwardDiffers 3 (edgePoint coarse f0) []
+unfoldable pub localize : Settings → Ray → Look Located
+localize s y = passes s y 3 (edgePoint (y .coarse) f0) []
 
 -- ---- what an answer says: document 01's number, and the values
 
@@ -161,19 +161,19 @@ pointAnswer (Found p) = record { number = number.answer; point = p }
 pointAnswer NoEdge = record { number = number.profile; point = noPoint }
 
 -- checks 1, 2 and 6
-unfoldable pub viewNumber : List ℕ → ℕ → ℕ → ℕ → View → ℕ
-viewNumber bytes w h stride view =
-    let n = photographNumber w h stride (length bytes) in
+unfoldable pub viewNumber : List ℕ → ℕ → Scene → ℕ
+viewNumber bytes stride e =
+    let n = photographNumber (e .width) (e .height) stride (length bytes) in
     if not (eqb n number.answer) then n else
-    if not (goodView view) then number.lens else
+    if not (goodView (e .view)) then number.lens else
     number.answer
 
 -- the leaf call: 1, 2, 6, then 19
-unfoldable pub localizeEdgePoint : List ℕ → ℕ → ℕ → ℕ → View → SourcePixel → Direction → Float → Bool → Bool → PointAnswer
-localizeEdgePoint bytes w h stride view coarse normal step inverted inwardDiffers =
-    let n = viewNumber bytes w h stride view in
+unfoldable pub localizeEdgePoint : List ℕ → ℕ → Scene → Ray → PointAnswer
+localizeEdgePoint bytes stride e y =
+    let n = viewNumber bytes stride e in
     if not (eqb n number.answer) then record { number = n; point = noPoint } else
-    pointAnswer (value (record { width = w; height = h; view = view }) (photo bytes stride) (localize defaults normal step inverted inwardDiffers coarse))
+    pointAnswer (value e (photo bytes stride) (localize defaults y))
 
 -- all of the above, for a proof that computes with them: to unfold this is to unfold what its line names
 unfoldable pub opened : Unit {0}

@@ -2,8 +2,23 @@
 // passes, and where those tend.
 ghost use mathlib.Core.Path.{_≡_};
 ghost use Rattle.sampling.specs.Photographs.{photo};
-ghost use Rattle.look.specs.Run.{Runs};
-ghost use Rattle.profile.specs.Profile.{stepped as steppedTo, gradient, corrected as correctedAt, five, clears as clearsBy, vertex as vertexOf, peak as peakOf, extrapolate as extrapolated, projection as projectionOf, aitken as aitkenOf, localize as localized, noPoint, viewNumber, localizeEdgePoint};
+ghost use Rattle.look.specs.Run.{state, sampler, Runs};
+ghost use Rattle.profile.specs.Profile.{
+  aitken as aitkenOf,
+  clears as clearsBy,
+  corrected as correctedAt,
+  extrapolate as extrapolated,
+  five,
+  gradient,
+  localize as localized,
+  localizeEdgePoint,
+  noPoint,
+  peak as peakOf,
+  projection as projectionOf,
+  stepped as steppedTo,
+  vertex as vertexOf,
+  viewNumber,
+};
 use consts::Settings;
 use look::Meter;
 use pixel::Direction;
@@ -11,7 +26,6 @@ use pixel::EdgePoint;
 use pixel::SourcePixel;
 use sampling::Sampled;
 use sampling::Scene;
-use sampling::View;
 
 // Passes of a point: the Aitken step is derived for exactly three.
 const PASSES: usize = 3;
@@ -47,6 +61,16 @@ pub struct Localized {
 pub struct PointAnswer {
     pub number: u32,
     pub point: EdgePoint,
+}
+
+// Where an edge point is looked for: around a coarse place, along a normal, by steps of half a module; and
+// what lies there: the label's polarity, and whether the module behind the edge is light.
+pub struct Ray {
+    pub coarse: SourcePixel,
+    pub normal: Direction,
+    pub step: f64,
+    pub inverted: bool,
+    pub inward_differs: bool,
 }
 
 // The gradients of a profile that a peak can need.
@@ -206,15 +230,17 @@ pub fn localize(
     stride: u32,
     scene: Scene,
     sheet: &mut [u8],
+    copy: &mut [u8],
     meter: Meter,
-    coarse: SourcePixel,
-    normal: Direction,
-    step: f64,
-    inverted: bool,
-    inward_differs: bool,
+    ray: Ray,
 ) -> Localized
-    ensures { λ r. ⌜ Runs scene (photo (now (bytes .entry)) stride) (localized settings normal step inverted «inward_differs» coarse) (r .located) (now (sheet .entry)) (now (sheet .exit)) meter (r .meter) ⌝ }
+    ensures { λ r. ⌜ Runs (sampler scene (photo (now (bytes .entry)) stride)) (localized settings ray) (r .located)
+        (state (now (sheet .entry)) (now (copy .entry)) meter)
+        (state (now (sheet .exit)) (now (copy .exit)) (r .meter)) ⌝ }
 {
+    let normal = ray.normal;
+    let step = ray.step;
+    let coarse = ray.coarse;
     let mut meter = meter;
     let mut point = EdgePoint {
         pos: coarse,
@@ -228,7 +254,7 @@ pub fn localize(
         let mut k: u32 = 0;
         while k < SAMPLES {
             let p = stepped(normal, step, center, k as f64 - 3.0);
-            let shown = look::sample_source(bytes, stride, scene, sheet, meter, p);
+            let shown = look::sample_source(bytes, stride, scene, sheet, copy, meter, p);
             meter = shown.meter;
             let sampled = shown.sampled;
             let Sampled::Luma(v) = sampled else {
@@ -237,7 +263,7 @@ pub fn localize(
             samples[k as usize] = v;
             k += 1;
         }
-        let peak = find_peak(settings, inverted, inward_differs, samples);
+        let peak = find_peak(settings, ray.inverted, ray.inward_differs, samples);
         let Peaked::Peak(offset, weight) = peak else {
             break 'passes;
         };
@@ -263,13 +289,14 @@ pub fn localize(
 // ---- the public call
 
 // The number by which a photograph or its camera is refused, and 0 where neither is.
-fn view_number(bytes: &[u8], width: u32, height: u32, stride: u32, view: View) -> u32
-    ensures { λ r. ⌜ r ≡ viewNumber (now (bytes .entry)) width height stride view ⌝ }
+fn view_number(bytes: &[u8], stride: u32, scene: Scene) -> u32
+    ensures { λ r. ⌜ r ≡ viewNumber (now (bytes .entry)) stride scene ⌝ }
 {
-    let refusal = sampling::photograph_number(width, height, stride, bytes.len());
+    let refusal = sampling::photograph_number(scene.width, scene.height, stride, bytes.len());
     if refusal != number::ANSWER {
         return refusal;
     }
+    let view = scene.view;
     if !view.valid() {
         return number::LENS;
     }
@@ -290,42 +317,24 @@ fn no_point(refusal: u32) -> PointAnswer
 
 // An edge point of a photograph, as it is or through a camera: 1, 2 and 6 for those, then 19 where the
 // profile has no edge point.
-pub fn localize_edge_point(
-    bytes: &[u8],
-    width: u32,
-    height: u32,
-    stride: u32,
-    view: View,
-    coarse: SourcePixel,
-    normal: Direction,
-    step: f64,
-    inverted: bool,
-    inward_differs: bool,
-) -> PointAnswer
-    ensures { λ r. ⌜ r ≡ localizeEdgePoint (now (bytes .entry)) width height stride view coarse normal step inverted «inward_differs» ⌝ }
+pub fn localize_edge_point(bytes: &[u8], stride: u32, scene: Scene, ray: Ray) -> PointAnswer
+    ensures { λ r. ⌜ r ≡ localizeEdgePoint (now (bytes .entry)) stride scene ray ⌝ }
 {
-    let refusal = view_number(bytes, width, height, stride, view);
+    let refusal = view_number(bytes, stride, scene);
     if refusal != number::ANSWER {
         return no_point(refusal);
     }
-    let scene = Scene {
-        width,
-        height,
-        view,
-    };
     let mut unmarked = [0u8; 0];
+    let mut uncopied = [0u8; 0];
     let run = localize(
         consts::defaults(),
         bytes,
         stride,
         scene,
         &mut unmarked,
+        &mut uncopied,
         Meter { tried: 0 },
-        coarse,
-        normal,
-        step,
-        inverted,
-        inward_differs,
+        ray,
     );
     let located = run.located;
     match located {

@@ -1,22 +1,43 @@
 -- What a refinement call returns, by its entry number: a refusal, or what its rounds ended in. Assumes nothing.
-use mathlib.Core.Path.{_≡_, sym, _∙_}
-use Prim.Native.Nat.{ℕ}
+use mathlib.Core.Path.{_≡_, sym, ap, _∙_}
+use mathlib.Core.Logic.{dite}
+use Prim.Native.Nat.{ℕ, min}
+use native.Mathlib.Nat.{le-refl}
+use native.Mathlib.Decide.{decLe}
+use native.Mathlib.Omega.{arith}
 use mathlib.Core.List.{List}
+use lib.ListN.{length, take}
+use lib.Seq.{take-all}
 use borrow.Author.Tests.{eq-eqb, ne-eqb}
-use Rattle.consts.specs.declared.Settings.{Settings}
 use Rattle.pixel.specs.declared.SourcePixel.{SourcePixel}
-use Rattle.look.specs.declared.Meter.{Meter}
-use Rattle.look.specs.Run.{Runs}
+use Rattle.sampling.specs.Photographs.{photo}
+use Rattle.look.specs.Run.{State, sampler, Runs}
+use Rattle.look.proofs.Meaning.{ran-value}
+use Rattle.edge.specs.declared.Task.{Task}
 use Rattle.rounds.specs.declared.Answer.{Answer}
 use Rattle.rounds.specs.Rounds.{refused, rounds}
-use Rattle.refine.specs.Refine.{Request, Photograph, sourceCorners, sceneOf, shown, entry, refinement, result, refine}
+use Rattle.refine.specs.declared.Request.{Request}
+use Rattle.refine.specs.Refine.{Photograph, cells, sceneOf, shown, sourceCorners, taskOf, entry, refinement, result, refine}
 
-module _ (s : Settings) (r : Request) (p : Photograph) {n : ℕ} (is : n ≡ entry r p) where
-  pub refuses : {a : Answer} → (n ≡ 0 → ⊥) → a ≡ refused n → a ≡ refine s r p
+-- no more are taken than there are
+take-min : (n : ℕ) (xs : List ℕ) → take (min n (length xs)) xs ≡ take n xs
+take-min n xs =
+    dite (decLe n (length xs)) (λ h. ap (λ (k : ℕ). take k xs) {x = min n (length xs)} {y = n} (omega arith))
+    (λ h. ap (λ (k : ℕ). take k xs) {x = min n (length xs)} {y = length xs} (omega arith) ∙ take-all (length xs) xs (le-refl (length xs)) ∙ sym (take-all n xs (omega arith)))
+
+-- the rounds of a request, by what the code lends them
+pub entered : (r : Request) (ms bytes : List ℕ) (stride : ℕ) {k : ℕ} {q : List SourcePixel} {w : Task} {a : Answer} {s s′ : State}
+    → k ≡ min (cells r) (length ms) → q ≡ sourceCorners r → w ≡ taskOf r stride
+    → Runs (sampler (w .scene) (photo bytes (w .stride))) (rounds (w .plan) (take k ms) q) a s s′
+    → Runs (sampler (sceneOf r) (photo bytes stride)) (refinement r ms) a s s′
+unfolding refinement
+entered r ms bytes stride hk hq hw ran = rw (sym (take-min (cells r) ms), sym hk, sym hq) (rw hw at ran)
+
+module _ (r : Request) (ms : List ℕ) (p : Photograph) {n : ℕ} (is : n ≡ entry r ms p) where
+  pub refuses : {a : Answer} → (n ≡ 0 → ⊥) → a ≡ refused n → a ≡ refine r ms p
   unfolding refine
-  refuses e h = rw (ne-eqb (entry r p) 0 (λ z. e (is ∙ z)), sym is) h
+  refuses e h = rw (ne-eqb (entry r ms p) 0 (λ z. e (is ∙ z)), sym is) h
 
-  pub answers : {q : List SourcePixel} {a : Answer} {t t′ : List ℕ} {m m′ : Meter} → n ≡ 0 → q ≡ sourceCorners r
-      → Runs (sceneOf r) (shown p) (rounds s (r .grid) (r .inverted) q) a t t′ m m′ → a ≡ refine s r p
-  unfolding refine result refinement
-  answers e h ran = rw (eq-eqb (entry r p) 0 (sym is ∙ e), sym h) (ran .answer)
+  pub answers : {a : Answer} {s s′ : State} → n ≡ 0 → Runs (sampler (sceneOf r) (shown p)) (refinement r ms) a s s′ → a ≡ refine r ms p
+  unfolding refine result
+  answers e ran = rw (eq-eqb (entry r ms p) 0 (sym is ∙ e)) (ran-value (sceneOf r) (shown p) ran)

@@ -44,7 +44,8 @@ use Rattle.profile.specs.declared.Extrapolated.the-variants.{Settled, Moved, Lo
 use Rattle.profile.specs.Profile.{peak, extrapolate}
 use Rattle.grid.specs.Grids.{Grid}
 use Rattle.grid.specs.Probes.{probesOf}
-use Rattle.refine.specs.Refine.{Request, Photograph, refine}
+use Rattle.refine.specs.declared.Request.{Request}
+use Rattle.refine.specs.Refine.{Photograph, refine}
 
 pub data Case : Type 0 where
   -- a profile's samples: its peak's offset and weight
@@ -163,18 +164,19 @@ pub grey : Request
 grey = record {
   width = 4;
   height = 4;
-  grid = record { dim = 2; modules = 1 ∷ 1 ∷ 1 ∷ 1 ∷ [] };
+  dim = 2;
   sx = f1;
   sy = f1;
   corners = at f0 f0 ∷ at f2 f0 ∷ at f2 f2 ∷ at f0 f2 ∷ [];
   inverted = false;
   view = Plain;
+  settings = defaults;
 }
 
 pub grey-photograph : Photograph
 grey-photograph = record { bytes = replicate 16 128; stride = 4 }
 
-pub grey-is-thin : T (eqb (refine defaults grey grey-photograph .number) 9)
+pub grey-is-thin : T (eqb (refine grey (1 ∷ 1 ∷ 1 ∷ 1 ∷ []) grey-photograph .number) 9)
 unfolding grey grey-photograph at
     Floats.opened Parts.opened Root.opened Pixels.opened Photographs.opened Sampling.opened Look.opened Homography.opened Line.opened Fit.opened
     Profile.opened Grids.opened Probes.opened Edge.opened Rounds.opened Refine.opened

@@ -1,50 +1,46 @@
 -- refine.rs, `refine_corners` and `refine_corners_mapped`: the entry checks, and what the calls return.
 -- Definitions only.
-use Prim.Native.Nat.{ℕ}
+use Prim.Native.Nat.{ℕ, _*_}
 use mathlib.Core.Bool.{Bool, true, not, _&&_}
 use mathlib.Core.List.{List, [], _∷_, map}
 use lib.Dec.{eqb}
-use lib.ListN.{length}
+use lib.ListN.{length, take}
 use lib.Ieee.{Float}
 use Rattle.number.specs.Numbers as number
 use Rattle.ieee.specs.Parts.{isFinite, magnitude}
 use Rattle.ieee.specs.Floats.{if_then_else_, _≺_, f0, f2^20}
-use Rattle.consts.specs.declared.Settings.{Settings}
 use Rattle.pixel.specs.Pixels.{toSource}
-use Rattle.pixel.specs.declared.WorkingPixel.{WorkingPixel}
 use Rattle.pixel.specs.declared.SourcePixel.{SourcePixel}
 use Rattle.sampling.specs.Photographs.{Photo, photo, Pixel, goodSize, goodPhotograph}
-use Rattle.sampling.specs.declared.View.{View}
+use Rattle.sampling.specs.declared.View.the-variants.{Plain}
 use Rattle.sampling.specs.declared.Scene.{Scene}
 use Rattle.sampling.specs.Sampling.{goodView}
 use Rattle.look.specs.Look.{Look, value, reads}
-use Rattle.grid.specs.Grids.{Grid, goodGrid}
+use Rattle.grid.specs.Grids.{gridOf, goodGrid}
+use Rattle.edge.specs.declared.Plan.{Plan}
+use Rattle.edge.specs.declared.Task.{Task}
 use Rattle.rounds.specs.declared.Answer.{Answer}
 use Rattle.rounds.specs.Rounds.{refused, rounds}
+use Rattle.refine.specs.declared.Request.{Request}
 
--- ---- what is handed in
+-- ---- what is handed in: the code's `Request`, the modules, and a photograph
 
--- all but the photograph's pixels
-pub record Request : Type 0 where
-  pub width : ℕ
-  pub height : ℕ
-  pub grid : Grid
-  pub sx : Float
-  pub sy : Float
-  pub corners : List WorkingPixel
-  pub inverted : Bool
-  pub view : View
+-- how many modules the label has
+abbrev pub cells : Request → ℕ
+cells r = r .dim * r .dim
 
-abbrev pub request : (width height : ℕ) → Grid → (sx sy : Float) → List WorkingPixel → Bool → View → Request
-request width height grid sx sy corners inverted view = record {
-  width = width;
-  height = height;
-  grid = grid;
-  sx = sx;
-  sy = sy;
-  corners = corners;
-  inverted = inverted;
-  view = view;
+-- without a camera
+abbrev pub plain : Request → Request
+plain r = record {
+  width = r .width;
+  height = r .height;
+  dim = r .dim;
+  sx = r .sx;
+  sy = r .sy;
+  corners = r .corners;
+  inverted = r .inverted;
+  view = Plain;
+  settings = r .settings;
 }
 
 pub record Photograph : Type 0 where
@@ -82,42 +78,48 @@ abbrev pub first : List Check → ℕ
 first [] = number.answer
 first (c ∷ cs) = if c .passes then first cs else c .number
 
-abbrev pub entryChecks : Request → Photograph → List Check
-entryChecks r p =
+abbrev pub entryChecks : Request → List ℕ → Photograph → List Check
+entryChecks r ms p =
     check number.size (goodSize (r .width) (r .height))
     ∷ check number.photograph (goodPhotograph (r .width) (r .height) (p .stride) (length (p .bytes)))
-    ∷ check number.grid (goodGrid (r .grid))
+    ∷ check number.grid (goodGrid (gridOf (r .dim) ms))
     ∷ check number.scale (goodScale (r .sx) && goodScale (r .sy))
     ∷ check number.corner (allNear (sourceCorners r))
     ∷ check number.lens (goodView (r .view))
     ∷ []
 
-unfoldable pub entry : Request → Photograph → ℕ
-entry r p = first (entryChecks r p)
+unfoldable pub entry : Request → List ℕ → Photograph → ℕ
+entry r ms p = first (entryChecks r ms p)
 
 -- ---- the refinement behind the entry checks
 
 abbrev pub sceneOf : Request → Scene
 sceneOf r = record { width = r .width; height = r .height; view = r .view }
 
+abbrev pub planOf : Request → Plan
+planOf r = record { settings = r .settings; dim = r .dim; inverted = r .inverted }
+
+abbrev pub taskOf : Request → ℕ → Task
+taskOf r stride = record { scene = sceneOf r; stride = stride; plan = planOf r }
+
 abbrev pub shown : Photograph → Photo
 shown p = photo (p .bytes) (p .stride)
 
--- as it looks at a photograph
-unfoldable pub refinement : Settings → Request → Look Answer
-refinement s r = rounds s (r .grid) (r .inverted) (sourceCorners r)
+-- as it looks at a photograph; the modules are the first dim × dim
+unfoldable pub refinement : Request → List ℕ → Look Answer
+refinement r ms = rounds (planOf r) (take (cells r) ms) (sourceCorners r)
 
-unfoldable pub result : Settings → Request → Photograph → Answer
-result s r p = value (sceneOf r) (shown p) (refinement s r)
+unfoldable pub result : Request → List ℕ → Photograph → Answer
+result r ms p = value (sceneOf r) (shown p) (refinement r ms)
 
 -- the pixels that the run reads, in order, up to where it ends
-unfoldable pub readsOf : Settings → Request → Photograph → List Pixel
-readsOf s r p = reads (sceneOf r) (shown p) (refinement s r)
+unfoldable pub readsOf : Request → List ℕ → Photograph → List Pixel
+readsOf r ms p = reads (sceneOf r) (shown p) (refinement r ms)
 
 -- ---- the refinement call
 
-unfoldable pub refine : Settings → Request → Photograph → Answer
-refine s r p = if eqb (entry r p) number.answer then result s r p else refused (entry r p)
+unfoldable pub refine : Request → List ℕ → Photograph → Answer
+refine r ms p = if eqb (entry r ms p) number.answer then result r ms p else refused (entry r ms p)
 
 -- all of the above, for a proof that computes with them: to unfold this is to unfold what its line names
 unfoldable pub opened : Unit {0}

@@ -1,30 +1,32 @@
-// The entry checks of the refinement calls, 1 to 6.
+// The entry checks of the refinement calls, 1 to 6, and what goes on behind them.
 ghost use mathlib.Core.Path.{_≡_};
-ghost use mathlib.Core.List.{List, map};
-ghost use mathlib.Core.Bool.{Bool, _&&_};
-ghost use Rattle.pixel.specs.Pixels.{toSource};
-ghost use Rattle.pixel.specs.declared.WorkingPixel.{WorkingPixel};
-ghost use Rattle.grid.specs.Grids.{gridOf};
+ghost use Prim.Native.Nat.{_*_, min};
+ghost use mathlib.Core.Bool.{_&&_};
 ghost use Rattle.refine.specs.Refine.{
   allNear,
   entry,
   goodScale,
   near as isNear,
   photograph,
-  request,
+  sourceCorners,
+  taskOf,
 };
-use crate::Entered;
+use crate::Request;
+use edge::Plan;
+use edge::Task;
 use pixel::SourcePixel;
-use pixel::WorkingPixel;
-use sampling::View;
+use sampling::Scene;
 
 // How far from the origin a source corner may lie: 64 times the widest photograph.
 const FARTHEST: f64 = 1048576.0;
 
 // The corners after the division.
-fn source_corners(corners: [WorkingPixel; 4], sx: f64, sy: f64) -> [SourcePixel; 4]
-    ensures { λ r. ⌜ r ≡ map (toSource sx sy) corners ⌝ }
+pub(crate) fn source_corners(request: Request) -> [SourcePixel; 4]
+    ensures { λ r. ⌜ r ≡ sourceCorners request ⌝ }
 {
+    let corners = request.corners;
+    let sx = request.sx;
+    let sy = request.sy;
     [
         corners[0].to_source(sx, sy),
         corners[1].to_source(sx, sy),
@@ -85,57 +87,62 @@ fn all_near(corners: [SourcePixel; 4]) -> bool
     true
 }
 
-// The number of the first entry check that fails, and 0 where none does. It goes by the corners after the
-// division, from whatever corners these came.
-fn entry_number(
-    bytes: &[u8],
-    width: u32,
-    height: u32,
-    stride: u32,
-    modules: &[u8],
-    dim: u32,
-    sx: f64,
-    sy: f64,
-    corners: [SourcePixel; 4],
-    view: View,
-) -> u32
-    ensures { λ r. ⌜ ((working : List WorkingPixel) (inverted : Bool) → corners ≡ map (toSource sx sy) working → r ≡ entry (request width height (gridOf dim (now (modules .entry))) sx sy working inverted view) (photograph (now (bytes .entry)) stride)) ⌝ }
+// The number of the first entry check that fails, and 0 where none does.
+pub fn entry_number(bytes: &[u8], stride: u32, modules: &[u8], request: Request) -> u32
+    ensures { λ r. ⌜ r ≡ entry request (now (modules .entry)) (photograph (now (bytes .entry)) stride) ⌝ }
 {
-    let refusal = sampling::photograph_number(width, height, stride, bytes.len());
+    let refusal = sampling::photograph_number(request.width, request.height, stride, bytes.len());
     if refusal != number::ANSWER {
         return refusal;
     }
-    if !grid::good_grid(modules, dim) {
+    if !grid::good_grid(modules, request.dim) {
         return number::GRID;
     }
-    if !good_scales(sx, sy) {
+    if !good_scales(request.sx, request.sy) {
         return number::SCALE;
     }
-    if !all_near(corners) {
+    if !all_near(source_corners(request)) {
         return number::CORNER;
     }
+    let view = request.view;
     if !view.valid() {
         return number::LENS;
     }
     number::ANSWER
 }
 
-// The division and the entry checks. The polarity is not looked at.
-pub fn enter(
-    bytes: &[u8],
-    width: u32,
-    height: u32,
-    stride: u32,
-    modules: &[u8],
-    dim: u32,
-    sx: f64,
-    sy: f64,
-    corners: [WorkingPixel; 4],
-    view: View,
-) -> Entered
-    ensures { λ r. ⌜ ((inverted : Bool) → r .number ≡ entry (request width height (gridOf dim (now (modules .entry))) sx sy corners inverted view) (photograph (now (bytes .entry)) stride)) × (r .corners ≡ map (toSource sx sy) corners) ⌝ }
+// How many bytes or modules lie in so many rows.
+pub fn area(width: u32, height: u32) -> usize
+    ensures { λ r. ⌜ r ≡ width * height ⌝ }
 {
-    let q = source_corners(corners, sx, sy);
-    let number = entry_number(bytes, width, height, stride, modules, dim, sx, sy, q, view);
-    Entered { number, corners: q }
+    width as usize * height as usize
+}
+
+// How many of so many bytes are the label's own modules. Behind check 3 they are all there.
+pub(crate) fn own_modules(dim: u32, bytes: usize) -> usize
+    ensures { λ r. ⌜ r ≡ min (dim * dim) bytes ⌝ }
+{
+    let cells = area(dim, dim);
+    if cells < bytes { cells } else { bytes }
+}
+
+// What the rounds behind the checks share.
+pub(crate) fn task_of(request: Request, stride: u32) -> Task
+    ensures { λ r. ⌜ r ≡ taskOf request stride ⌝ }
+{
+    let view = request.view;
+    let settings = request.settings;
+    Task {
+        scene: Scene {
+            width: request.width,
+            height: request.height,
+            view,
+        },
+        stride,
+        plan: Plan {
+            settings,
+            dim: request.dim,
+            inverted: request.inverted,
+        },
+    }
 }

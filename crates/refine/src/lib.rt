@@ -1,142 +1,109 @@
 // refine.rs, `refine_corners` and `refine_corners_mapped`: the entry checks, and the rounds behind them.
 ghost use mathlib.Core.Path.{_≡_};
-ghost use Rattle.consts.specs.Consts.{defaults};
-ghost use Rattle.sampling.specs.declared.View.the-variants.{Plain};
-ghost use Rattle.grid.specs.Grids.{gridOf};
-ghost use Rattle.refine.specs.Refine.{photograph, refine, request};
+ghost use Rattle.sampling.specs.Photographs.{photo};
+ghost use Rattle.look.specs.Run.{state, sampler, Runs};
+ghost use Rattle.refine.specs.Refine.{photograph, plain, refine, refinement, sceneOf};
 use consts::Settings;
 use look::Meter;
-use pixel::SourcePixel;
 use pixel::WorkingPixel;
 use rounds::Answer;
-use sampling::Scene;
+use rounds::Rounded;
 use sampling::View;
 
 mod entry; // entry.rt: the entry checks
 
-pub use entry::enter;
+pub use entry::area;
+pub use entry::entry_number;
 
-// What the entry checks of a refinement come to: a number, and the corners after the division.
-pub struct Entered {
-    pub number: u32,
-    pub corners: [SourcePixel; 4],
+// All of a refinement but the pixels and the modules: the photograph's size, the label's side in modules, how
+// many working pixels there are for a source pixel, its corners in those, its polarity, the camera, and the settings.
+pub struct Request {
+    pub width: u32,
+    pub height: u32,
+    pub dim: u32,
+    pub sx: f64,
+    pub sy: f64,
+    pub corners: [WorkingPixel; 4],
+    pub inverted: bool,
+    pub view: View,
+    pub settings: Settings,
 }
 
-// A label's corners, refined on the photograph. The label is its grid of modules and its corners in working
-// pixels, of which there are sx and sy for each source pixel. Refused by 1 to 6, then by 8, by 9, or by the
-// number of an edge.
-pub fn refine_corners(
-    bytes: &[u8],
-    width: u32,
-    height: u32,
-    stride: u32,
-    modules: &[u8],
-    dim: u32,
-    sx: f64,
-    sy: f64,
-    corners: [WorkingPixel; 4],
-    inverted: bool,
-) -> Answer
-    ensures { λ r. ⌜ r ≡ refine defaults (request width height (gridOf dim (now (modules .entry))) sx sy corners inverted Plain) (photograph (now (bytes .entry)) stride) ⌝ }
-{
-    refine_corners_mapped(
-        bytes,
-        width,
-        height,
-        stride,
-        modules,
-        dim,
-        sx,
-        sy,
-        corners,
-        inverted,
-        View::Plain,
-    )
-}
-
-// The same, as seen through a camera where there is one.
-pub fn refine_corners_mapped(
-    bytes: &[u8],
-    width: u32,
-    height: u32,
-    stride: u32,
-    modules: &[u8],
-    dim: u32,
-    sx: f64,
-    sy: f64,
-    corners: [WorkingPixel; 4],
-    inverted: bool,
-    view: View,
-) -> Answer
-    ensures { λ r. ⌜ r ≡ refine defaults (request width height (gridOf dim (now (modules .entry))) sx sy corners inverted view) (photograph (now (bytes .entry)) stride) ⌝ }
-{
-    refine_corners_with(
-        consts::defaults(),
-        bytes,
-        width,
-        height,
-        stride,
-        modules,
-        dim,
-        sx,
-        sy,
-        corners,
-        inverted,
-        view,
-    )
-}
-
-// The entry checks, and behind them the rounds. No marks are wanted, so an empty sheet is lent.
-fn refine_corners_with(
-    settings: Settings,
-    bytes: &[u8],
-    width: u32,
-    height: u32,
-    stride: u32,
-    modules: &[u8],
-    dim: u32,
-    sx: f64,
-    sy: f64,
-    corners: [WorkingPixel; 4],
-    inverted: bool,
-    view: View,
-) -> Answer
-    ensures { λ r. ⌜ r ≡ refine settings (request width height (gridOf dim (now (modules .entry))) sx sy corners inverted view) (photograph (now (bytes .entry)) stride) ⌝ }
-{
-    let entered = entry::enter(
-        bytes,
-        width,
-        height,
-        stride,
-        modules,
-        dim,
-        sx,
-        sy,
-        corners,
-        view,
-    );
-    if entered.number != number::ANSWER {
-        return rounds::refused(entered.number);
+impl Request {
+    // Without a camera.
+    pub fn plain(self) -> Request
+        ensures { λ r. ⌜ r ≡ plain self ⌝ }
+    {
+        let corners = self.corners;
+        let settings = self.settings;
+        Request {
+            width: self.width,
+            height: self.height,
+            dim: self.dim,
+            sx: self.sx,
+            sy: self.sy,
+            corners,
+            inverted: self.inverted,
+            view: View::Plain,
+            settings,
+        }
     }
-    let q = entered.corners;
-    let scene = Scene {
-        width,
-        height,
-        view,
-    };
-    let meter = Meter { tried: 0 };
+}
+
+// A label's corners, refined on the photograph as it is, whatever camera is asked for. Refused by 1 to 6, then by
+// 8, by 9, or by the number of an edge.
+pub fn refine_corners(bytes: &[u8], stride: u32, modules: &[u8], request: Request) -> Answer
+    ensures { λ r. ⌜ r ≡ refine (plain request) (now (modules .entry)) (photograph (now (bytes .entry)) stride) ⌝ }
+{
+    refine_corners_mapped(bytes, stride, modules, request.plain())
+}
+
+// The same, as seen through the camera where there is one. No marks are wanted, so an empty sheet and an empty copy
+// are lent.
+pub fn refine_corners_mapped(bytes: &[u8], stride: u32, modules: &[u8], request: Request) -> Answer
+    ensures { λ r. ⌜ r ≡ refine request (now (modules .entry)) (photograph (now (bytes .entry)) stride) ⌝ }
+{
+    let refusal = entry::entry_number(bytes, stride, modules, request);
+    if refusal != number::ANSWER {
+        return rounds::refused(refusal);
+    }
     let mut unmarked = [0u8; 0];
-    let run = rounds::refine_rounds(
-        settings,
+    let mut uncopied = [0u8; 0];
+    let run = refine_entered(
         bytes,
         stride,
-        scene,
-        &mut unmarked,
-        meter,
         modules,
-        dim,
-        inverted,
-        q,
+        request,
+        &mut unmarked,
+        &mut uncopied,
     );
     run.answer
+}
+
+// The rounds behind the entry checks. Bytes behind the label's own modules are not lent to them.
+pub fn refine_entered(
+    bytes: &[u8],
+    stride: u32,
+    modules: &[u8],
+    request: Request,
+    sheet: &mut [u8],
+    copy: &mut [u8],
+) -> Rounded
+    ensures { λ r. ⌜ Runs (sampler (sceneOf request) (photo (now (bytes .entry)) stride))
+        (refinement request (now (modules .entry))) (r .answer)
+        (state (now (sheet .entry)) (now (copy .entry)) (record { tried = 0 }))
+        (state (now (sheet .exit)) (now (copy .exit)) (r .meter)) ⌝ }
+{
+    let n = entry::own_modules(request.dim, modules.len());
+    let q = entry::source_corners(request);
+    let task = entry::task_of(request, stride);
+    rounds::refine_rounds(
+        task,
+        bytes,
+        &modules[..n],
+        sheet,
+        copy,
+        Meter { tried: 0 },
+        q,
+    )
 }

@@ -2,4 +2,3 @@
 pub mod Crossings
 pub mod EdgeByEdge
 pub mod RoundByRound
-pub mod SameGrid

@@ -7,7 +7,6 @@ use lib.ListN.{getD, set, replicate}
 use lib.Ieee.{nan}
 use Rattle.number.specs.Numbers as number
 use Rattle.ieee.specs.Floats.{if_then_else_, f0}
-use Rattle.consts.specs.declared.Settings.{Settings}
 use Rattle.pixel.specs.Pixels.{source, direction, corner}
 use Rattle.pixel.specs.declared.SourcePixel.{SourcePixel}
 use Rattle.homography.specs.declared.PerspectiveTransform.{PerspectiveTransform}
@@ -24,7 +23,8 @@ use Rattle.fit.specs.declared.EdgeFit.the-variants.{Stops, Weak, Lined}
 use Rattle.fit.specs.Fit.{stat}
 use Rattle.look.specs.Look.{Look, done, _>>=_}
 use Rattle.look.specs.Sheets.{bit}
-use Rattle.grid.specs.Grids.{Grid}
+use Rattle.edge.specs.declared.Plan.{Plan}
+use Rattle.edge.specs.declared.Side.{Side}
 use Rattle.edge.specs.Edge.{edge}
 use Rattle.rounds.specs.declared.RefinedCorners.{RefinedCorners}
 use Rattle.rounds.specs.declared.Answer.{Answer}
@@ -58,12 +58,16 @@ joined e got (Lined l c) = record { number = got .number; lines = set (got .line
 unfoldable pub onward : (Edges → Look Edges) → Edges → Look Edges
 onward next got = if eqb (got .number) number.answer then next got else done got
 
--- n edges from e on, behind those that there are; edge e goes from corner e to the next
-unfoldable pub edgesFrom : Settings → PerspectiveTransform → List SourcePixel → Grid → Bool → ℕ → ℕ → Edges → Look Edges
-edgesFrom s m q g inverted zero e got = done got
-edgesFrom s m q g inverted (suc n) e got = do
-  f ← edge s m g inverted e (corner q e) (corner q ((e + 1) % 4))
-  onward (edgesFrom s m q g inverted n (suc e)) (joined e got f)
+-- edge e goes from its corner to the next
+abbrev pub sideOf : PerspectiveTransform → List SourcePixel → ℕ → Side
+sideOf m q e = record { map = m; edge = e; from = corner q e; to = corner q ((e + 1) % 4) }
+
+-- n edges from e on, behind those that there are
+unfoldable pub edgesFrom : Plan → List ℕ → PerspectiveTransform → List SourcePixel → ℕ → ℕ → Edges → Look Edges
+edgesFrom p ms m q zero e got = done got
+edgesFrom p ms m q (suc n) e got = do
+  f ← edge p ms (sideOf m q e)
+  onward (edgesFrom p ms m q n (suc e)) (joined e got f)
 
 -- ---- the corners
 
@@ -109,14 +113,14 @@ roundEnd q es =
     if ltb (validCount es) 2 then refused number.thin else
     answered (refinedCorners q es)
 
-unfoldable pub mappedRound : Settings → List SourcePixel → Grid → Bool → Mapped → Look Answer
-mappedRound s q g inverted NoMap = done (refused number.quad)
-mappedRound s q g inverted (By m) = do
-  es ← edgesFrom s m q g inverted 4 0 noEdges
+unfoldable pub mappedRound : Plan → List ℕ → List SourcePixel → Mapped → Look Answer
+mappedRound p ms q NoMap = done (refused number.quad)
+mappedRound p ms q (By m) = do
+  es ← edgesFrom p ms m q 4 0 noEdges
   done (roundEnd q es)
 
-unfoldable pub round : Settings → Grid → Bool → List SourcePixel → Look Answer
-round s g inverted q = mappedRound s q g inverted (squareToQuad q)
+unfoldable pub round : Plan → List ℕ → List SourcePixel → Look Answer
+round p ms q = mappedRound p ms q (squareToQuad q)
 
 -- ---- the rounds, each from the corners of the last
 
@@ -125,18 +129,18 @@ unfoldable pub isWeak : Answer → Bool
 isWeak a = eqb (a .number) number.quad || eqb (a .number) number.thin
 
 -- Up to n rounds more. A weak one ends them and leaves the answer that there is; the number of an edge ends the refinement.
-unfoldable pub further : Settings → Grid → Bool → ℕ → Answer → Look Answer
-further s g inverted zero best = done best
-further s g inverted (suc n) best = do
-  next ← round s g inverted (best .refined .corners)
+unfoldable pub further : Plan → List ℕ → ℕ → Answer → Look Answer
+further p ms zero best = done best
+further p ms (suc n) best = do
+  next ← round p ms (best .refined .corners)
   if isWeak next then done best else
-      if eqb (next .number) number.answer then further s g inverted n next else done next
+      if eqb (next .number) number.answer then further p ms n next else done next
 
 -- the first round's refusal is the refinement's
-unfoldable pub rounds : Settings → Grid → Bool → List SourcePixel → Look Answer
-rounds s g inverted q = do
-  first ← round s g inverted q
-  if eqb (first .number) number.answer then further s g inverted (s .rounds - 1) first else done first
+unfoldable pub rounds : Plan → List ℕ → List SourcePixel → Look Answer
+rounds p ms q = do
+  first ← round p ms q
+  if eqb (first .number) number.answer then further p ms (p .settings .rounds - 1) first else done first
 
 -- all of the above, for a proof that computes with them: to unfold this is to unfold what its line names
 unfoldable pub opened : Unit {0}

@@ -2,8 +2,7 @@
 ghost use mathlib.Core.Path.{_≡_};
 ghost use Prim.Native.Nat.{_-_, _<_};
 ghost use Rattle.sampling.specs.Photographs.{photo};
-ghost use Rattle.look.specs.Run.{Runs};
-ghost use Rattle.grid.specs.Grids.{gridOf};
+ghost use Rattle.look.specs.Run.{state, sampler, Runs};
 ghost use Rattle.line.specs.Line.{zeroLine};
 ghost use Rattle.rounds.specs.Rounds.{
   edgesFrom,
@@ -15,8 +14,10 @@ ghost use Rattle.rounds.specs.Rounds.{
   refused as refusedBy,
   round,
   rounds,
+  sideOf,
 };
-use consts::Settings;
+use edge::Side;
+use edge::Task;
 use fit::EdgeFit;
 use fit::EdgeStat;
 use homography::Mapped;
@@ -25,7 +26,6 @@ use line::Line2;
 use look::Meter;
 use pixel::Direction;
 use pixel::SourcePixel;
-use sampling::Scene;
 
 mod corners; // corners.rt: what the edges of a round come to
 
@@ -148,41 +148,40 @@ impl Edges {
     }
 }
 
+// The side of edge e, from its corner of q to the next.
+fn side_of(map: PerspectiveTransform, q: [SourcePixel; 4], e: usize) -> Side
+    requires { ⌜ e < 4 ⌝ }
+    ensures { λ r. ⌜ r ≡ sideOf map q e ⌝ }
+{
+    Side {
+        map,
+        edge: e as u32,
+        from: q[e],
+        to: q[(e + 1) % 4],
+    }
+}
+
 // The four edges in turn, each from a corner to the next. The number of one ends them.
 fn fit_edges(
-    settings: Settings,
+    task: Task,
     bytes: &[u8],
-    stride: u32,
-    scene: Scene,
+    modules: &[u8],
     sheet: &mut [u8],
+    copy: &mut [u8],
     meter: Meter,
     map: PerspectiveTransform,
     q: [SourcePixel; 4],
-    modules: &[u8],
-    dim: u32,
-    inverted: bool,
 ) -> EdgesRun
-    ensures { λ r. ⌜ Runs scene (photo (now (bytes .entry)) stride) (edgesFrom settings map q (gridOf dim (now (modules .entry))) inverted 4 0 noEdges) (r .edges) (now (sheet .entry)) (now (sheet .exit)) meter (r .meter) ⌝ }
+    ensures { λ r. ⌜ Runs (sampler (task .scene) (photo (now (bytes .entry)) (task .stride)))
+        (edgesFrom (task .plan) (now (modules .entry)) map q 4 0 noEdges) (r .edges)
+        (state (now (sheet .entry)) (now (copy .entry)) meter)
+        (state (now (sheet .exit)) (now (copy .exit)) (r .meter)) ⌝ }
 {
     let mut edges = Edges::none();
     let mut meter = meter;
     let mut e: usize = 0;
     while e < 4 {
-        let run = edge::refine_edge(
-            settings,
-            bytes,
-            stride,
-            scene,
-            sheet,
-            meter,
-            map,
-            modules,
-            dim,
-            inverted,
-            e as u32,
-            q[e],
-            q[(e + 1) % 4],
-        );
+        let run = edge::refine_edge(task, bytes, modules, sheet, copy, meter, side_of(map, q, e));
         let fit = run.fit;
         edges = edges.with(e, fit);
         meter = run.meter;
@@ -198,18 +197,18 @@ fn fit_edges(
 
 // One round from the corners q.
 fn refine_round(
-    settings: Settings,
+    task: Task,
     bytes: &[u8],
-    stride: u32,
-    scene: Scene,
-    sheet: &mut [u8],
-    meter: Meter,
     modules: &[u8],
-    dim: u32,
-    inverted: bool,
+    sheet: &mut [u8],
+    copy: &mut [u8],
+    meter: Meter,
     q: [SourcePixel; 4],
 ) -> Rounded
-    ensures { λ r. ⌜ Runs scene (photo (now (bytes .entry)) stride) (round settings (gridOf dim (now (modules .entry))) inverted q) (r .answer) (now (sheet .entry)) (now (sheet .exit)) meter (r .meter) ⌝ }
+    ensures { λ r. ⌜ Runs (sampler (task .scene) (photo (now (bytes .entry)) (task .stride)))
+        (round (task .plan) (now (modules .entry)) q) (r .answer)
+        (state (now (sheet .entry)) (now (copy .entry)) meter)
+        (state (now (sheet .exit)) (now (copy .exit)) (r .meter)) ⌝ }
 {
     match homography::quad_map(q) {
         Mapped::NoMap => Rounded {
@@ -217,19 +216,7 @@ fn refine_round(
             meter,
         },
         Mapped::By(map) => {
-            let run = fit_edges(
-                settings,
-                bytes,
-                stride,
-                scene,
-                sheet,
-                meter,
-                map,
-                q,
-                modules,
-                dim,
-                inverted,
-            );
+            let run = fit_edges(task, bytes, modules, sheet, copy, meter, map, q);
             let edges = run.edges;
             let meter = run.meter;
             Rounded {
@@ -252,67 +239,45 @@ fn is_weak(answer: Answer) -> bool
 
 // A round from an answer's corners.
 fn next_round(
-    settings: Settings,
+    task: Task,
     bytes: &[u8],
-    stride: u32,
-    scene: Scene,
-    sheet: &mut [u8],
-    meter: Meter,
     modules: &[u8],
-    dim: u32,
-    inverted: bool,
+    sheet: &mut [u8],
+    copy: &mut [u8],
+    meter: Meter,
     last: Answer,
 ) -> Rounded
-    ensures { λ r. ⌜ Runs scene (photo (now (bytes .entry)) stride) (round settings (gridOf dim (now (modules .entry))) inverted (last .refined .corners)) (r .answer) (now (sheet .entry)) (now (sheet .exit)) meter (r .meter) ⌝ }
+    ensures { λ r. ⌜ Runs (sampler (task .scene) (photo (now (bytes .entry)) (task .stride)))
+        (round (task .plan) (now (modules .entry)) (last .refined .corners)) (r .answer)
+        (state (now (sheet .entry)) (now (copy .entry)) meter)
+        (state (now (sheet .exit)) (now (copy .exit)) (r .meter)) ⌝ }
 {
     let refined = last.refined;
     let corners = refined.corners;
-    refine_round(
-        settings,
-        bytes,
-        stride,
-        scene,
-        sheet,
-        meter,
-        modules,
-        dim,
-        inverted,
-        corners,
-    )
+    refine_round(task, bytes, modules, sheet, copy, meter, corners)
 }
 
 // The rounds after the first, each from the corners of the last. A weak one ends them and leaves the answer
 // that there is, since that is still measured; the number of an edge ends the refinement.
 fn further_rounds(
-    settings: Settings,
+    task: Task,
     bytes: &[u8],
-    stride: u32,
-    scene: Scene,
-    sheet: &mut [u8],
-    meter: Meter,
     modules: &[u8],
-    dim: u32,
-    inverted: bool,
+    sheet: &mut [u8],
+    copy: &mut [u8],
+    meter: Meter,
     first: Answer,
 ) -> Rounded
-    ensures { λ r. ⌜ Runs scene (photo (now (bytes .entry)) stride) (further settings (gridOf dim (now (modules .entry))) inverted (settings .rounds - 1) first) (r .answer) (now (sheet .entry)) (now (sheet .exit)) meter (r .meter) ⌝ }
+    ensures { λ r. ⌜ Runs (sampler (task .scene) (photo (now (bytes .entry)) (task .stride)))
+        (further (task .plan) (now (modules .entry)) (task .plan .settings .rounds - 1) first) (r .answer)
+        (state (now (sheet .entry)) (now (copy .entry)) meter)
+        (state (now (sheet .exit)) (now (copy .exit)) (r .meter)) ⌝ }
 {
     let mut answer = first;
     let mut meter = meter;
     let mut round: u32 = 1;
-    while round < settings.rounds {
-        let run = next_round(
-            settings,
-            bytes,
-            stride,
-            scene,
-            sheet,
-            meter,
-            modules,
-            dim,
-            inverted,
-            answer,
-        );
+    while round < task.plan.settings.rounds {
+        let run = next_round(task, bytes, modules, sheet, copy, meter, answer);
         let next = run.answer;
         meter = run.meter;
         if is_weak(next) {
@@ -329,45 +294,23 @@ fn further_rounds(
 
 // All rounds. The first one's refusal is the refinement's.
 pub fn refine_rounds(
-    settings: Settings,
+    task: Task,
     bytes: &[u8],
-    stride: u32,
-    scene: Scene,
-    sheet: &mut [u8],
-    meter: Meter,
     modules: &[u8],
-    dim: u32,
-    inverted: bool,
+    sheet: &mut [u8],
+    copy: &mut [u8],
+    meter: Meter,
     q: [SourcePixel; 4],
 ) -> Rounded
-    ensures { λ r. ⌜ Runs scene (photo (now (bytes .entry)) stride) (rounds settings (gridOf dim (now (modules .entry))) inverted q) (r .answer) (now (sheet .entry)) (now (sheet .exit)) meter (r .meter) ⌝ }
+    ensures { λ r. ⌜ Runs (sampler (task .scene) (photo (now (bytes .entry)) (task .stride)))
+        (rounds (task .plan) (now (modules .entry)) q) (r .answer)
+        (state (now (sheet .entry)) (now (copy .entry)) meter)
+        (state (now (sheet .exit)) (now (copy .exit)) (r .meter)) ⌝ }
 {
-    let first = refine_round(
-        settings,
-        bytes,
-        stride,
-        scene,
-        sheet,
-        meter,
-        modules,
-        dim,
-        inverted,
-        q,
-    );
+    let first = refine_round(task, bytes, modules, sheet, copy, meter, q);
     let answer = first.answer;
     if answer.number != number::ANSWER {
         return first;
     }
-    further_rounds(
-        settings,
-        bytes,
-        stride,
-        scene,
-        sheet,
-        first.meter,
-        modules,
-        dim,
-        inverted,
-        answer,
-    )
+    further_rounds(task, bytes, modules, sheet, copy, first.meter, answer)
 }

@@ -21,11 +21,12 @@ use Rattle.camera.specs.Camera.{rectifiedToSource}
 use Rattle.camera.proofs.Tests.{both}
 use Rattle.sampling.specs.Photographs.{sized, goodSize, goodPhotograph}
 use Rattle.sampling.specs.declared.BorderMode.the-variants.{Reject}
-use Rattle.sampling.specs.declared.Spot.the-variants.{Off}
+use Rattle.sampling.specs.declared.Spot.the-variants.{Off, Edging, Among}
+use Rattle.sampling.specs.declared.Spot.{Spot}
 use Rattle.sampling.specs.declared.View.{View}
 use Rattle.sampling.specs.declared.View.the-variants.{Plain, Calibrated}
 use Rattle.sampling.specs.declared.Scene.{Scene}
-use Rattle.sampling.specs.Sampling.{within, outside, beyond, spot, touched, placedSpot, viewedSpot, sceneSpot}
+use Rattle.sampling.specs.Sampling.{within, outside, beyond, spot, touched, Ordered, placedSpot, viewedSpot, sceneSpot}
 use Rattle.sampling.proofs.Pixels.{Each, Inside}
 
 -- ---- the whole part of a value that is not above n
@@ -95,39 +96,62 @@ photograph-checked w h stride bytes e =
     let u = both (leb w stride) (leb stride 65535) (t .0) in
     record { across = leb-true w stride (u .0); narrow = leb-true stride 65535 (u .1); down = leb-true ((h - 1) * stride + w) bytes (t .1) }
 
-module _ (w h : ℕ) (size : Sized w h) where
-  pub spot-inside : (x y : Float) → Each (Inside w h) (touched (spot w h Reject x y))
-  unfolding touched spot beyond within outside
-  spot-inside x y = go (not (isFinite x) || not (isFinite y)) refl (outside w h x y) refl
+-- a spot's four pixels: the fourth is the last, and lies in the picture
+unfoldable pub Cut : ℕ → ℕ → Spot → Type 0
+Cut w h Off = Unit {0}
+Cut w h (Edging v) = Unit {0}
+Cut w h (Among x0 y0 x1 y1 fx fy) = (x0 ≤ x1) × (y0 ≤ y1) × (x1 ≤ w - 1) × (y1 ≤ h - 1)
+
+module _ (w h : ℕ) (wide : w < 2 ^ 32) (high : h < 2 ^ 32) where
+  pub spot-cut : (x y : Float) → Cut w h (spot w h Reject x y)
+  unfolding Cut spot beyond within outside
+  spot-cut x y = go (not (isFinite x) || not (isFinite y)) refl (outside w h x y) refl
     where
       go : (a : Bool) → (not (isFinite x) || not (isFinite y)) ≡ a → (b : Bool) → outside w h x y ≡ b
-          → Each (Inside w h) (touched (if a then Off else if b then beyond w h Reject x y else within w h x y))
+          → Cut w h (if a then Off else if b then beyond w h Reject x y else within w h x y)
       go true ea b eb = tt
       go false ea true eb = tt
       go false ea false eb =
           let bx : wholePart x ≤ w - 1 = whole-part-le (w - 1) x (omega arith) (not-false (isFinite x) (or-left (not (isFinite x)) (not (isFinite y)) ea))
           (or-right ((x ≺ f0) || (y ≺ f0)) (float (w - 1) ≺ x) (or-left ((x ≺ f0) || (y ≺ f0) || (float (w - 1) ≺ x)) (float (h - 1) ≺ y) eb)) in
           let by : wholePart y ≤ h - 1 = whole-part-le (h - 1) y (omega arith) (not-false (isFinite y) (or-right (not (isFinite x)) (not (isFinite y)) ea))
-          (or-right ((x ≺ f0) || (y ≺ f0) || (float (w - 1) ≺ x)) (float (h - 1) ≺ y) eb) in (
-            record { across = omega arith; down = omega arith },
-            (
-              record { across = omega arith; down = omega arith },
-              (
-                record { across = omega arith; down = omega arith },
-                (record { across = omega arith; down = omega arith }, tt),
-              ),
-            ),
-          )
+          (or-right ((x ≺ f0) || (y ≺ f0) || (float (w - 1) ≺ x)) (float (h - 1) ≺ y) eb) in
+          (omega arith, omega arith, omega arith, omega arith)
 
-  placed-inside : (r : Placed) → Each (Inside w h) (touched (placedSpot w h r))
-  unfolding placedSpot touched
-  placed-inside (On q) = spot-inside (q .0) (q .1)
-  placed-inside Nowhere = tt
+  placed-cut : (r : Placed) → Cut w h (placedSpot w h r)
+  unfolding placedSpot Cut
+  placed-cut (On q) = spot-cut (q .0) (q .1)
+  placed-cut Nowhere = tt
 
-  viewed-inside : (v : View) (q : SourcePixel) → Each (Inside w h) (touched (viewedSpot w h v q))
+  pub viewed-cut : (v : View) (q : SourcePixel) → Cut w h (viewedSpot w h v q)
   unfolding viewedSpot
-  viewed-inside Plain q = spot-inside (q .0) (q .1)
-  viewed-inside (Calibrated c) q = placed-inside (rectifiedToSource c q)
+  viewed-cut Plain q = spot-cut (q .0) (q .1)
+  viewed-cut (Calibrated c) q = placed-cut (rectifiedToSource c q)
 
-pub scene-inside : (e : Scene) → Sized (e .width) (e .height) → (q : SourcePixel) → Each (Inside (e .width) (e .height)) (touched (sceneSpot e q))
-scene-inside e size q = viewed-inside (e .width) (e .height) size (e .view) q
+pub cut-ordered : (w h : ℕ) (at : Spot) → Cut w h at → Ordered at
+unfolding Cut Ordered
+cut-ordered w h Off c = tt
+cut-ordered w h (Edging v) c = tt
+cut-ordered w h (Among x0 y0 x1 y1 fx fy) c = (c .0, c .1)
+
+pub cut-inside : (w h : ℕ) → Sized w h → (at : Spot) → Cut w h at → Each (Inside w h) (touched at)
+unfolding Cut touched
+cut-inside w h size Off c = tt
+cut-inside w h size (Edging v) c = tt
+cut-inside w h size (Among x0 y0 x1 y1 fx fy) c = (
+  record { across = omega arith; down = omega arith },
+  (
+    record { across = omega arith; down = omega arith },
+    (
+      record { across = omega arith; down = omega arith },
+      (record { across = omega arith; down = omega arith }, tt),
+    ),
+  ),
+)
+
+module _ (e : Scene) where
+  pub scene-ordered : e .width < 2 ^ 32 → e .height < 2 ^ 32 → (q : SourcePixel) → Ordered (sceneSpot e q)
+  scene-ordered wide high q = cut-ordered (e .width) (e .height) (sceneSpot e q) (viewed-cut (e .width) (e .height) wide high (e .view) q)
+
+  pub scene-inside : Sized (e .width) (e .height) → (q : SourcePixel) → Each (Inside (e .width) (e .height)) (touched (sceneSpot e q))
+  scene-inside size q = cut-inside (e .width) (e .height) size (sceneSpot e q) (viewed-cut (e .width) (e .height) (omega arith) (omega arith) (e .view) q)

@@ -1,56 +1,68 @@
--- What a sample shows and marks: what four pixels come to, and each case of a spot. The four marks and the four bytes are the
--- definition's four, in its order, so the laws only put them together. And two photographs that agree on what a sample reads: it shows nothing
--- but those bytes. Assumes nothing.
-use mathlib.Core.Path.{_≡_, refl, ap}
-use Prim.Native.Nat.{ℕ, _+_, _*_}
+-- What a sample shows, marks and copies: where four pixels lie in a buffer that reaches the last of them, and each case of a spot. And two photographs that agree on
+-- what a sample reads: it shows nothing but those bytes. Assumes nothing.
+use mathlib.Core.Path.{_≡_, refl, sym, ap, _∙_}
+use Prim.Native.Nat.{ℕ, _+_, _*_, _≤_, _<_}
+use native.Mathlib.Nat.{mul-le-mul-right}
 use native.Mathlib.Omega.{arith}
-use mathlib.Core.List.{List, [], _∷_}
-use lib.ListN.{length, set}
+use mathlib.Core.Bool.{false, and-false}
+use mathlib.Core.List.{List}
+use lib.Dec.{ltb}
+use lib.ListN.{length}
 use lib.Ieee.{Float}
-use Rattle.ieee.specs.Floats.{_⊕_, _⊖_, _⊗_, float}
+use borrow.Author.Tests.{lt-ltb, le-ltb}
+use Rattle.ieee.specs.Floats.{float}
 use Rattle.sampling.specs.Photographs.{Photo, Pixel}
+use Rattle.sampling.specs.declared.Cell.{Cell}
+use Rattle.sampling.specs.declared.Sampled.{Sampled}
 use Rattle.sampling.specs.declared.Sampled.the-variants.{Luma, Outside}
 use Rattle.sampling.specs.declared.Spot.{Spot}
 use Rattle.sampling.specs.declared.Spot.the-variants.{Off, Edging, Among}
-use Rattle.sampling.specs.Sampling.{cell, touched, blend, shade}
-use Rattle.sampling.specs.Marks.{mark, Shows}
+use Rattle.sampling.specs.Sampling.{cellOf, touched, blend, shade}
+use Rattle.sampling.specs.Marks.{Buffers, buffers, written, ones, cellMarked, marked, Shows}
 use Rattle.sampling.proofs.Pixels.{Each}
 
 -- ---- four pixels
 
-pub four-marks : (w x0 y0 x1 y1 : ℕ) (s : List ℕ) {s1 s2 s3 s4 : List ℕ}
-    → s1 ≡ set s (y0 * w + x0) 1 → s2 ≡ set s1 (y0 * w + x1) 1 → s3 ≡ set s2 (y1 * w + x0) 1 → s4 ≡ set s3 (y1 * w + x1) 1
-    → s4 ≡ mark w (cell x0 y0 x1 y1) s
-unfolding mark
-four-marks w x0 y0 x1 y1 s e1 e2 e3 e4 = cc
+-- a buffer that reaches the last of them holds all
+pub cell-places : (w x0 y0 x1 y1 n : ℕ) → x0 ≤ x1 → y0 ≤ y1 → y1 * w + x1 < n → (y0 * w + x0 < n) × (y0 * w + x1 < n) × (y1 * w + x0 < n)
+cell-places w x0 y0 x1 y1 n hx hy l =
+    let rows : y0 * w ≤ y1 * w = mul-le-mul-right w hy in
+    (omega arith, omega arith, omega arith)
 
--- on an empty sheet nothing is marked
-pub no-marks : (w : ℕ) (cs : List Pixel) (s : List ℕ) → length s ≡ 0 → s ≡ mark w cs s
-unfolding mark
-no-marks w [] s e = refl
-no-marks w (c ∷ cs) [] e = no-marks w cs [] refl
-no-marks w (c ∷ cs) (b ∷ s) e = absurd (omega (arith, e))
+module _ (w x0 y0 x1 y1 : ℕ) (v : Cell) (s c : List ℕ) {i : ℕ} (last : i ≡ y1 * w + x1) where
+  pub short-sheet : length s ≤ i → buffers s c ≡ cellMarked w x0 y0 x1 y1 v (buffers s c)
+  unfolding cellMarked
+  short-sheet h = rw (← last, le-ltb i (length s) h, cellMarked)
 
-pub four-shades : (a b c d : ℕ) (fx fy : Float) {v00 v10 v01 v11 : Float} → v00 ≡ float a → v10 ≡ float b → v01 ≡ float c → v11 ≡ float d
-    → ((v00 ⊕ (v10 ⊖ v00) ⊗ fx) ⊕ ((v01 ⊕ (v11 ⊖ v01) ⊗ fx) ⊖ (v00 ⊕ (v10 ⊖ v00) ⊗ fx)) ⊗ fy) ≡ blend a b c d fx fy
-unfolding blend
-four-shades a b c d fx fy e1 e2 e3 e4 = rw (e1, e2, e3, e4)
+  pub short-copy : length c ≤ i → buffers s c ≡ cellMarked w x0 y0 x1 y1 v (buffers s c)
+  unfolding cellMarked
+  short-copy h = rw (← last, le-ltb i (length c) h, and-false (ltb i (length s)), cellMarked)
+
+  pub both-reach : i < length s → i < length c → {s′ c′ : List ℕ} → s′ ≡ written w x0 y0 x1 y1 ones s → c′ ≡ written w x0 y0 x1 y1 v c
+      → buffers s′ c′ ≡ cellMarked w x0 y0 x1 y1 v (buffers s c)
+  unfolding cellMarked
+  both-reach hs hc es ec = rw (← last, lt-ltb i (length s) hs, lt-ltb i (length c) hc, es, ec, cellMarked)
 
 -- ---- a sample by its spot
 
-module _ (p : Photo) (w : ℕ) (s : List ℕ) {at : Spot} where
-  pub shows-off : at ≡ Off → Shows p w at Outside s s
-  unfolding shade touched mark
+pub shade-among : (p : Photo) {at : Spot} (x0 y0 x1 y1 : ℕ) (fx fy : Float) → at ≡ Among x0 y0 x1 y1 fx fy → {v : Cell} → v ≡ cellOf p x0 y0 x1 y1 → {b : Float}
+    → b ≡ blend (v .v00) (v .v10) (v .v01) (v .v11) fx fy → Luma b ≡ shade p at
+unfolding shade
+shade-among p x0 y0 x1 y1 fx fy e hv hb = rw (e, hb, hv)
+
+module _ (p : Photo) (w : ℕ) (b : Buffers) {at : Spot} where
+  pub shows-off : at ≡ Off → Shows p w at Outside b b
+  unfolding shade marked
   shows-off e = rw e (record { answer = refl; marks = refl })
 
-  pub shows-edging : {v : ℕ} → at ≡ Edging v → Shows p w at (Luma (float v)) s s
-  unfolding shade touched mark
+  pub shows-edging : {v : ℕ} → at ≡ Edging v → Shows p w at (Luma (float v)) b b
+  unfolding shade marked
   shows-edging e = rw e (record { answer = refl; marks = refl })
 
-  pub shows-among : (x0 y0 x1 y1 : ℕ) (fx fy : Float) → at ≡ Among x0 y0 x1 y1 fx fy → {s′ : List ℕ} → s′ ≡ mark w (cell x0 y0 x1 y1) s → {v : Float}
-      → v ≡ blend (p x0 y0) (p x1 y0) (p x0 y1) (p x1 y1) fx fy → Shows p w at (Luma v) s s′
-  unfolding shade touched
-  shows-among x0 y0 x1 y1 fx fy e h g = rw e (record { answer = ap Luma g; marks = h })
+  pub shows-among : (x0 y0 x1 y1 : ℕ) (fx fy : Float) → at ≡ Among x0 y0 x1 y1 fx fy → {v : Cell} → v ≡ cellOf p x0 y0 x1 y1 → {b′ : Buffers} → b′ ≡ cellMarked w x0 y0 x1 y1 v b
+      → {l : Float} → l ≡ blend (v .v00) (v .v10) (v .v01) (v .v11) fx fy → Shows p w at (Luma l) b b′
+  unfolding marked
+  shows-among x0 y0 x1 y1 fx fy e {v} hv hb hl = record { answer = shade-among p x0 y0 x1 y1 fx fy e hv hl; marks = rw (e, ← hv) hb }
 
 -- ---- two photographs
 

@@ -1,18 +1,48 @@
--- The mark sheet as a run writes it: a 1 at each pixel's place, in the order of the reads. A mark past its end is none. Definitions only.
+-- The mark sheet and the copy as a sample writes them: a 1 and the photograph's byte at each of its pixels' places. Definitions only.
 use Prim.Native.Nat.{ℕ, _+_, _*_}
 use mathlib.Core.Path.{_≡_}
-use mathlib.Core.List.{List, [], _∷_}
-use lib.ListN.{set}
-use Rattle.sampling.specs.Photographs.{Photo, Pixel}
+use mathlib.Core.Bool.{Bool, _&&_}
+use mathlib.Core.List.{List}
+use lib.Dec.{ltb}
+use lib.ListN.{length, set}
+use Rattle.ieee.specs.Floats.{if_then_else_}
+use Rattle.sampling.specs.Photographs.{Photo}
 use Rattle.sampling.specs.declared.Spot.{Spot}
+use Rattle.sampling.specs.declared.Spot.the-variants.{Off, Edging, Among}
+use Rattle.sampling.specs.declared.Cell.{Cell}
 use Rattle.sampling.specs.declared.Sampled.{Sampled}
-use Rattle.sampling.specs.Sampling.{touched, shade}
+use Rattle.sampling.specs.Sampling.{shade, cellOf}
 
-unfoldable pub mark : ℕ → List Pixel → List ℕ → List ℕ
-mark w [] s = s
-mark w (c ∷ cs) s = mark w cs (set s (c .row * w + c .column) 1)
+-- what a marking run writes, both in rows of the picture's width; a run that marks nothing has two empty ones
+pub record Buffers : Type 0 where
+  pub sheet : List ℕ
+  pub copy : List ℕ
 
--- A sample that falls at a spot shows r, and takes the sheet, of rows of w bytes, from s to s′.
-pub record Shows (p : Photo) (w : ℕ) (at : Spot) (r : Sampled) (s s′ : List ℕ) : Type 0 where
+abbrev pub buffers : List ℕ → List ℕ → Buffers
+buffers s c = record { sheet = s; copy = c }
+
+-- a byte for each of the four pixels
+unfoldable pub written : ℕ → ℕ → ℕ → ℕ → ℕ → Cell → List ℕ → List ℕ
+written w x0 y0 x1 y1 v s = set (set (set (set s (y0 * w + x0) (v .v00)) (y0 * w + x1) (v .v10)) (y1 * w + x0) (v .v01)) (y1 * w + x1) (v .v11)
+
+abbrev pub ones : Cell
+ones = record { v00 = 1; v10 = 1; v01 = 1; v11 = 1 }
+
+abbrev pub reach : ℕ → Buffers → Bool
+reach i b = ltb i (length (b .sheet)) && ltb i (length (b .copy))
+
+-- four pixels are marked and copied where both buffers reach the last of them
+unfoldable pub cellMarked : ℕ → ℕ → ℕ → ℕ → ℕ → Cell → Buffers → Buffers
+cellMarked w x0 y0 x1 y1 v b =
+    if reach (y1 * w + x1) b then buffers (written w x0 y0 x1 y1 ones (b .sheet)) (written w x0 y0 x1 y1 v (b .copy)) else b
+
+-- what a sample that falls at a spot makes of them
+unfoldable pub marked : Photo → ℕ → Spot → Buffers → Buffers
+marked p w Off b = b
+marked p w (Edging v) b = b
+marked p w (Among x0 y0 x1 y1 fx fy) b = cellMarked w x0 y0 x1 y1 (cellOf p x0 y0 x1 y1) b
+
+-- A sample that falls at a spot shows r, and takes the buffers, of rows of w bytes, from b to b′.
+pub record Shows (p : Photo) (w : ℕ) (at : Spot) (r : Sampled) (b b′ : Buffers) : Type 0 where
   pub answer : r ≡ shade p at
-  pub marks : s′ ≡ mark w (touched at) s
+  pub marks : b′ ≡ marked p w at b

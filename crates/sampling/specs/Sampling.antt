@@ -1,5 +1,5 @@
 -- sampling.rs: `sample_bilinear`. Where a sample falls is worked out without the photograph, and what it shows from the four pixels there. Definitions only.
-use Prim.Native.Nat.{ℕ, _+_, _-_, min}
+use Prim.Native.Nat.{ℕ, _+_, _-_, _≤_, min}
 use mathlib.Core.Bool.{Bool, true, not, _||_}
 use mathlib.Core.List.{List, [], _∷_}
 use lib.Dec.{eqb}
@@ -17,6 +17,7 @@ use Rattle.sampling.specs.declared.BorderMode.{BorderMode}
 use Rattle.sampling.specs.declared.BorderMode.the-variants.{Reject, Clamp, Constant}
 use Rattle.sampling.specs.declared.Spot.{Spot}
 use Rattle.sampling.specs.declared.Spot.the-variants.{Off, Edging, Among}
+use Rattle.sampling.specs.declared.Cell.{Cell}
 use Rattle.sampling.specs.declared.Sampled.{Sampled}
 use Rattle.sampling.specs.declared.Sampled.the-variants.{Luma, Outside}
 use Rattle.sampling.specs.declared.LumaAnswer.{LumaAnswer}
@@ -54,14 +55,24 @@ spot w h b x y =
 -- ---- what it reads there, and what it shows
 
 -- the four pixels that a sample falls among
-abbrev pub cell : ℕ → ℕ → ℕ → ℕ → List Pixel
-cell x0 y0 x1 y1 = pixel x0 y0 ∷ pixel x1 y0 ∷ pixel x0 y1 ∷ pixel x1 y1 ∷ []
+abbrev pub cellPixels : ℕ → ℕ → ℕ → ℕ → List Pixel
+cellPixels x0 y0 x1 y1 = pixel x0 y0 ∷ pixel x1 y0 ∷ pixel x0 y1 ∷ pixel x1 y1 ∷ []
 
 -- the pixels that a sample reads: all four, also where a fraction is 0
 unfoldable pub touched : Spot → List Pixel
 touched Off = []
 touched (Edging v) = []
-touched (Among x0 y0 x1 y1 fx fy) = cell x0 y0 x1 y1
+touched (Among x0 y0 x1 y1 fx fy) = cellPixels x0 y0 x1 y1
+
+-- and their bytes
+abbrev pub cellOf : Photo → ℕ → ℕ → ℕ → ℕ → Cell
+cellOf p x0 y0 x1 y1 = record { v00 = p x0 y0; v10 = p x1 y0; v01 = p x0 y1; v11 = p x1 y1 }
+
+-- the fourth of the pixels is the last
+unfoldable pub Ordered : Spot → Type 0
+Ordered Off = Unit {0}
+Ordered (Edging v) = Unit {0}
+Ordered (Among x0 y0 x1 y1 fx fy) = (x0 ≤ x1) × (y0 ≤ y1)
 
 unfoldable pub blend : ℕ → ℕ → ℕ → ℕ → Float → Float → Float
 blend v00 v10 v01 v11 fx fy =

@@ -1,15 +1,15 @@
 // sampling.rs: where a sample falls, and what it shows there. The pixels that it reads are marked on a
-// sheet; where none is wanted, an empty one is lent.
+// sheet and copied; where neither is wanted, two empty slices are lent.
 ghost use mathlib.Core.Path.{_≡_};
-ghost use Prim.Native.Nat.{ℕ, _+_, _-_, _*_, min};
-ghost use lib.ListN.{set, getD};
+ghost use Prim.Native.Nat.{ℕ, _+_, _-_, _*_, _<_, _≤_, min};
+ghost use lib.ListN.{getD, length};
 ghost use mathlib.Core.Bool.{_&&_, not};
 ghost use Rattle.ieee.specs.Floats.{float};
 ghost use Rattle.ieee.specs.Parts.{isFinite};
 ghost use Rattle.camera.specs.Camera.{rectifiedToSource};
 ghost use Rattle.sampling.specs.Photographs.{photo, sized as sizedBy, goodSize, goodPhotograph, photographNumber};
-ghost use Rattle.sampling.specs.Sampling.{clamped, outside, within as amid, beyond as borderSpot, spot as spotOf, cell, blend, placedSpot, viewedSpot, sceneSpot, goodView, sampleBilinear};
-ghost use Rattle.sampling.specs.Marks.{mark, Shows};
+ghost use Rattle.sampling.specs.Sampling.{clamped, outside, within as amid, beyond as borderSpot, spot as spotOf, cellOf, blend, shade, Ordered, placedSpot, viewedSpot, sceneSpot, goodView, sampleBilinear};
+ghost use Rattle.sampling.specs.Marks.{buffers, written, cellMarked, Shows};
 ghost use Rattle.sampling.specs.declared.BorderMode.the-variants.{Reject};
 use camera::CameraCalibration;
 use camera::Placed;
@@ -43,6 +43,14 @@ pub enum Spot {
         fx: f64,
         fy: f64,
     },
+}
+
+// The bytes of the four pixels that a sample falls among.
+pub struct Cell {
+    pub v00: u8,
+    pub v10: u8,
+    pub v01: u8,
+    pub v11: u8,
 }
 
 // What a sample shows.
@@ -197,7 +205,7 @@ fn viewed(view: View, p: SourcePixel) -> Placed
 
 // Where a sample of the refinement falls: through the camera, where there is one, with the border
 // rejected. One call finds the spot for every view, so that the compiler puts it in.
-pub fn source_spot(scene: Scene, p: SourcePixel) -> Spot
+fn source_spot(scene: Scene, p: SourcePixel) -> Spot
     ensures { λ r. ⌜ r ≡ sceneSpot scene p ⌝ }
 {
     let view = scene.view;
@@ -224,54 +232,99 @@ fn byte_at(bytes: &[u8], i: usize) -> u8
     if i < bytes.len() { bytes[i] } else { 0 }
 }
 
-// A pixel's mark on a sheet of rows of `width` bytes. Past the sheet's end there is none.
-fn mark_pixel(sheet: &mut [u8], width: u32, x: u32, y: u32)
-    ensures { λ _. ⌜ now (sheet .exit) ≡ set (now (sheet .entry)) (y * width + x) 1 ⌝ }
-{
-    let i = place(width, x, y);
-    if i < sheet.len() {
-        sheet[i] = 1;
-    }
-}
-
-// The marks of the four pixels that a sample falls among. Most runs want no sheet and lend an empty
-// one, so that is asked first.
-fn mark_cell(sheet: &mut [u8], width: u32, x0: u32, y0: u32, x1: u32, y1: u32)
-    ensures { λ _. ⌜ now (sheet .exit) ≡ mark width (cell x0 y0 x1 y1) (now (sheet .entry)) ⌝ }
-{
-    if sheet.len() == 0 {
-        return;
-    }
-    mark_pixel(sheet, width, x0, y0);
-    mark_pixel(sheet, width, x1, y0);
-    mark_pixel(sheet, width, x0, y1);
-    mark_pixel(sheet, width, x1, y1);
-}
-
 // A pixel of the photograph.
-fn pixel_at(bytes: &[u8], stride: u32, x: u32, y: u32) -> f64
-    ensures { λ r. ⌜ r ≡ float (photo (now (bytes .entry)) stride x y) ⌝ }
+fn pixel_at(bytes: &[u8], stride: u32, x: u32, y: u32) -> u8
+    ensures { λ r. ⌜ r ≡ photo (now (bytes .entry)) stride x y ⌝ }
 {
-    byte_at(bytes, place(stride, x, y)) as f64
+    byte_at(bytes, place(stride, x, y))
 }
 
-// What four pixels show.
-fn blended(bytes: &[u8], stride: u32, x0: u32, y0: u32, x1: u32, y1: u32, fx: f64, fy: f64) -> f64
-    ensures { λ r. ⌜ r ≡ blend (photo (now (bytes .entry)) stride x0 y0) (photo (now (bytes .entry)) stride x1 y0) (photo (now (bytes .entry)) stride x0 y1) (photo (now (bytes .entry)) stride x1 y1) fx fy ⌝ }
+// The four pixels that a sample falls among.
+fn cell_at(bytes: &[u8], stride: u32, x0: u32, y0: u32, x1: u32, y1: u32) -> Cell
+    ensures { λ r. ⌜ r ≡ cellOf (photo (now (bytes .entry)) stride) x0 y0 x1 y1 ⌝ }
 {
-    let v00 = pixel_at(bytes, stride, x0, y0);
-    let v10 = pixel_at(bytes, stride, x1, y0);
-    let v01 = pixel_at(bytes, stride, x0, y1);
-    let v11 = pixel_at(bytes, stride, x1, y1);
+    Cell {
+        v00: pixel_at(bytes, stride, x0, y0),
+        v10: pixel_at(bytes, stride, x1, y0),
+        v01: pixel_at(bytes, stride, x0, y1),
+        v11: pixel_at(bytes, stride, x1, y1),
+    }
+}
+
+// What they show.
+fn blended(cell: Cell, fx: f64, fy: f64) -> f64
+    ensures { λ r. ⌜ r ≡ blend (cell .v00) (cell .v10) (cell .v01) (cell .v11) fx fy ⌝ }
+{
+    let v00 = cell.v00 as f64;
+    let v10 = cell.v10 as f64;
+    let v01 = cell.v01 as f64;
+    let v11 = cell.v11 as f64;
     let top = v00 + (v10 - v00) * fx;
     let bottom = v01 + (v11 - v01) * fx;
     top + (bottom - top) * fy
 }
 
-// What a sample shows that falls at a spot. The pixels that it reads are marked on a sheet of rows of
+// A byte for each of four pixels, into rows of `width` bytes that reach the last of them.
+fn write_cell(buffer: &mut [u8], width: u32, x0: u32, y0: u32, x1: u32, y1: u32, cell: Cell)
+    requires { ⌜ (x0 ≤ x1) × (y0 ≤ y1) × (y1 * width + x1 < length (now buffer)) ⌝ }
+    ensures { λ _. ⌜ now (buffer .exit) ≡ written width x0 y0 x1 y1 cell (now (buffer .entry)) ⌝ }
+{
+    let i00 = place(width, x0, y0);
+    let i10 = place(width, x1, y0);
+    let i01 = place(width, x0, y1);
+    let i11 = place(width, x1, y1);
+    buffer[i00] = cell.v00;
+    buffer[i10] = cell.v10;
+    buffer[i01] = cell.v01;
+    buffer[i11] = cell.v11;
+}
+
+// Four pixels are marked on the sheet, and copied, where both reach the last of them. Most runs want
+// neither, and lend two empty slices.
+fn mark_cell(
+    sheet: &mut [u8],
+    copy: &mut [u8],
+    width: u32,
+    x0: u32,
+    y0: u32,
+    x1: u32,
+    y1: u32,
+    cell: Cell,
+)
+    requires { ⌜ (x0 ≤ x1) × (y0 ≤ y1) ⌝ }
+    ensures { λ _. ⌜ buffers (now (sheet .exit)) (now (copy .exit))
+        ≡ cellMarked width x0 y0 x1 y1 cell (buffers (now (sheet .entry)) (now (copy .entry))) ⌝ }
+{
+    let last = place(width, x1, y1);
+    if last >= sheet.len() {
+        return;
+    }
+    if last >= copy.len() {
+        return;
+    }
+    let ones = Cell {
+        v00: 1,
+        v10: 1,
+        v01: 1,
+        v11: 1,
+    };
+    write_cell(sheet, width, x0, y0, x1, y1, ones);
+    write_cell(copy, width, x0, y0, x1, y1, cell);
+}
+
+// What a sample shows that falls at a spot. The pixels that it reads are marked and copied, in rows of
 // `width` bytes.
-pub fn show(bytes: &[u8], stride: u32, width: u32, sheet: &mut [u8], spot: Spot) -> Sampled
-    ensures { λ r. ⌜ Shows (photo (now (bytes .entry)) stride) width spot r (now (sheet .entry)) (now (sheet .exit)) ⌝ }
+fn show(
+    bytes: &[u8],
+    stride: u32,
+    width: u32,
+    sheet: &mut [u8],
+    copy: &mut [u8],
+    spot: Spot,
+) -> Sampled
+    requires { ⌜ Ordered spot ⌝ }
+    ensures { λ r. ⌜ Shows (photo (now (bytes .entry)) stride) width spot r
+        (buffers (now (sheet .entry)) (now (copy .entry))) (buffers (now (sheet .exit)) (now (copy .exit))) ⌝ }
 {
     match spot {
         Spot::Off => Sampled::Outside,
@@ -284,10 +337,48 @@ pub fn show(bytes: &[u8], stride: u32, width: u32, sheet: &mut [u8], spot: Spot)
             fx,
             fy,
         } => {
-            mark_cell(sheet, width, x0, y0, x1, y1);
-            Sampled::Luma(blended(bytes, stride, x0, y0, x1, y1, fx, fy))
+            let cell = cell_at(bytes, stride, x0, y0, x1, y1);
+            mark_cell(sheet, copy, width, x0, y0, x1, y1, cell);
+            Sampled::Luma(blended(cell, fx, fy))
         }
     }
+}
+
+// The same, and nothing is marked.
+fn shade_at(bytes: &[u8], stride: u32, spot: Spot) -> Sampled
+    ensures { λ r. ⌜ r ≡ shade (photo (now (bytes .entry)) stride) spot ⌝ }
+{
+    match spot {
+        Spot::Off => Sampled::Outside,
+        Spot::Edging(v) => Sampled::Luma(v as f64),
+        Spot::Among {
+            x0,
+            y0,
+            x1,
+            y1,
+            fx,
+            fy,
+        } => {
+            let cell = cell_at(bytes, stride, x0, y0, x1, y1);
+            Sampled::Luma(blended(cell, fx, fy))
+        }
+    }
+}
+
+// A sample of the refinement, its pixels marked and copied.
+pub fn sample_at(
+    bytes: &[u8],
+    stride: u32,
+    scene: Scene,
+    sheet: &mut [u8],
+    copy: &mut [u8],
+    p: SourcePixel,
+) -> Sampled
+    ensures { λ r. ⌜ Shows (photo (now (bytes .entry)) stride) (scene .width) (sceneSpot scene p) r
+        (buffers (now (sheet .entry)) (now (copy .entry))) (buffers (now (sheet .exit)) (now (copy .exit))) ⌝ }
+{
+    let spot = source_spot(scene, p);
+    show(bytes, stride, scene.width, sheet, copy, spot)
 }
 
 // ---- entry checks 1, 2 and 6
@@ -370,8 +461,7 @@ pub fn sample_bilinear(
         };
     }
     let spot = spot_at(width, height, border, x, y);
-    let mut unmarked = [0u8; 0];
-    let sampled = show(bytes, stride, width, &mut unmarked, spot);
+    let sampled = shade_at(bytes, stride, spot);
     match sampled {
         Sampled::Luma(v) => LumaAnswer {
             number: number::ANSWER,

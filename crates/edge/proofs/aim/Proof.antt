@@ -1,7 +1,7 @@
 -- `edge::aim` meets its contract: too short a module ends it unread, else the call runs the rest. Assumes nothing.
-use borrow.Author.Needs.{needs}
-use Rattle.look.proofs.Steps.{start, end}
 use Rattle.edge.specs.Edge.{aimed}
+use Rattle.look.proofs.Steps.{start, end}
+use borrow.Author.Needs.{needs}
 use Rattle.edge.proofs.aim.Statement.{statement}
 use Rattle.edge.proofs.aim.Tie as tie
 
@@ -10,7 +10,7 @@ sqrt-requires c κs = search needs
 
 returns : tie.Need-returns
 unfolding aimed
-returns c = rw (← c .before .sqrt .ensures, c .if1 .taken) (end _ _ (start _ _ _ _ _))
+returns c = rw (← c .before .sqrt .ensures, c .if1 .taken) (end _ (start _ _ _))
 
 localize-requires : tie.Need-localize-requires
 localize-requires c κs = search needs
@@ -18,9 +18,14 @@ localize-requires c κs = search needs
 same-length : tie.Need-same-length
 same-length c = search needs
 
+same-length-2 : tie.Need-same-length-2
+same-length-2 c = search needs
+
 returns-2 : tie.Need-returns-2
 unfolding aimed
-returns-2 c = rw (← c .before .before .before .before .before .sqrt .ensures, c .before .before .before .before .if1 .left) (c .before .before .localize .ensures)
+returns-2 c = rw (← c .before .before .before .before .before .before .before .before .before .before .sqrt .ensures, c .before .before .before .before .before .before .before .before .before .if1 .left) (c .before .before .before .before .localize .ensures)
 
 pub aim-spec : {M : Type 1} → statement M
-aim-spec = tie.close (tie.spec sqrt-requires returns localize-requires same-length returns-2)
+aim-spec =
+    tie.close
+    (tie.spec sqrt-requires returns localize-requires same-length same-length-2 returns-2)

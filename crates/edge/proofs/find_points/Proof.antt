@@ -5,6 +5,8 @@ use native.Mathlib.Omega.{arith}
 use lib.ListN.{length}
 use borrow.Author.Needs.{needs}
 use Rattle.sampling.specs.Photographs.{photo}
+use Rattle.look.specs.Run.{state, sampler}
+use Rattle.look.proofs.Meaning.{sheet-long, copy-long}
 use Rattle.fit.specs.Fit.{pointsOf}
 use Rattle.edge.specs.Store.{storedTo}
 use Rattle.edge.proofs.Probing.{Left, none-probed, one-probed, all-probed}
@@ -12,18 +14,19 @@ use Rattle.edge.proofs.find_points.Statement.{statement}
 use Rattle.edge.proofs.find_points.Tie as tie
 
 abbrev Inv-loop : tie.InvT-loop
-Inv-loop bytes stride scene sheet₀ side xs₀ ys₀ weights₀ n list found₀ i₀ sheet xs ys weights found i =
-    (i ≤ n) × (found .count ≤ i) × (length sheet ≡ length sheet₀) × (length xs ≡ length xs₀) × (length ys ≡ length ys₀) × (length weights ≡ length weights₀)
-    × Left scene (photo bytes stride) (side .settings) (side .map) (side .dim) (side .inverted) (side .edge) list n sheet₀ (found₀ .meter) i (storedTo (found .count) xs ys weights) sheet (found .meter)
+Inv-loop bytes sheet₀ copy₀ xs₀ ys₀ weights₀ task side n list found₀ i₀ sheet copy xs ys weights found i =
+    (i ≤ n) × (found .count ≤ i) × (length xs ≡ length xs₀) × (length ys ≡ length ys₀) × (length weights ≡ length weights₀)
+    × Left (sampler (task .scene) (photo bytes (task .stride))) (task .plan) side list n (state sheet₀ copy₀ (found₀ .meter)) i
+    (storedTo (found .count) xs ys weights) (state sheet copy (found .meter))
 
 abbrev μ-loop : tie.MeasureT-loop
-μ-loop bytes stride scene sheet₀ side xs₀ ys₀ weights₀ n list found₀ i₀ sheet xs ys weights found i =
+μ-loop bytes sheet₀ copy₀ xs₀ ys₀ weights₀ task side n list found₀ i₀ sheet copy xs ys weights found i =
     n - i
 
 loop-holds : tie.Need-loop-holds Inv-loop μ-loop
 unfolding pointsOf
-loop-holds c = let a = c .before .before .before .before .before .before .args in
-    (omega arith, omega arith, refl, refl, refl, refl, none-probed _ _ _ _ _ _ _ (a .probes .probes) (a .probes .count) _ _)
+loop-holds c = let a = c .before .before .before .before .before .before .before .before .before .before .args in
+    (omega arith, omega arith, refl, refl, refl, none-probed _ _ _ (a .search .probes .probes) (a .search .probes .count) _)
 
 mul-probe-edge : tie.Need-mul-probe-edge Inv-loop μ-loop
 mul-probe-edge c = search needs
@@ -35,13 +38,13 @@ probe-edge-requires : tie.Need-probe-edge-requires Inv-loop μ-loop
 probe-edge-requires c κs = search needs
 
 put-requires : tie.Need-put-requires Inv-loop μ-loop
-put-requires c κs = let test = c .before .before .before .before .before .before .before .before in
+put-requires c κs = let test = c .before .before .before .before .before .before .before .before .before .before .before in
     let at = test .before in
-    let pre = at .before .before .before .before .before .before .before .pre in
+    let pre = at .before .before .before .before .before .before .before .before .before .before .before .pre in
     record {
-      in-xs = omega (arith, test .loop-test .taken, at .loop .inv .1, at .loop .inv .3, pre .few, pre .xs-too);
-      in-ys = omega (arith, test .loop-test .taken, at .loop .inv .1, at .loop .inv .4, pre .few, pre .ys-too);
-      in-ws = omega (arith, test .loop-test .taken, at .loop .inv .1, at .loop .inv .5, pre .few, pre .ws-too);
+      in-xs = omega (arith, test .loop-test .taken, at .loop .inv .1, at .loop .inv .2, pre .few, pre .xs-too);
+      in-ys = omega (arith, test .loop-test .taken, at .loop .inv .1, at .loop .inv .3, pre .few, pre .ys-too);
+      in-ws = omega (arith, test .loop-test .taken, at .loop .inv .1, at .loop .inv .4, pre .few, pre .ws-too);
     }
 
 add-i : tie.Need-add-i Inv-loop μ-loop
@@ -52,24 +55,27 @@ loop-less c = search needs
 
 loop-again : tie.Need-loop-again Inv-loop μ-loop
 loop-again c = let stored = c .before .before .before .before .before .before .before in
-    let ran = stored .before .before .before .before .before .before in
-    let test = ran .before .before .before in
+    let ran = stored .before .before .before .before .before .before .before .before in
+    let test = ran .before .before .before .before in
     let at = test .before in
-    let pre = at .before .before .before .before .before .before .before .pre in (
+    let pre = at .before .before .before .before .before .before .before .before .before .before .before .pre in (
       omega (arith, test .loop-test .taken),
       omega (arith, at .loop .inv .1, stored .put .ensures .one),
-      ran .probe-edge .kept .1 .1 .1 .0 ∙ at .loop .inv .2,
-      stored .put .kept .1 .0 ∙ at .loop .inv .3,
-      stored .put .kept .1 .1 .0 ∙ at .loop .inv .4,
-      stored .put .kept .1 .1 .1 .0 ∙ at .loop .inv .5,
-      one-probed _ _ _ _ _ _ _ _ _ _ _ _ (test .loop-test .taken) (omega (arith, pre .few, pre .whole)) (at .loop .inv .6) (ran .probe-edge .ensures) (stored .put .ensures .points),
+      stored .put .kept .1 .0 ∙ at .loop .inv .2,
+      stored .put .kept .1 .1 .0 ∙ at .loop .inv .3,
+      stored .put .kept .1 .1 .1 .0 ∙ at .loop .inv .4,
+      one-probed _ _ _ _ _ _ _ _ (test .loop-test .taken) (omega (arith, pre .few, pre .whole)) (at .loop .inv .5) (ran .probe-edge .ensures) (stored .put .ensures .points),
     )
 
+returns : tie.Need-returns Inv-loop μ-loop
+returns c = let at = c .before in
+    (omega (arith, at .loop .inv .0, at .loop .inv .1), all-probed _ _ _ _ _ _ _ (c .loop-test .left) (at .loop .inv .5))
+
 same-length : tie.Need-same-length Inv-loop μ-loop
-same-length c = search needs
+same-length c = sheet-long _ _ (returns c .1)
 
 same-length-2 : tie.Need-same-length-2 Inv-loop μ-loop
-same-length-2 c = search needs
+same-length-2 c = copy-long _ _ (returns c .1)
 
 same-length-3 : tie.Need-same-length-3 Inv-loop μ-loop
 same-length-3 c = search needs
@@ -77,9 +83,8 @@ same-length-3 c = search needs
 same-length-4 : tie.Need-same-length-4 Inv-loop μ-loop
 same-length-4 c = search needs
 
-returns : tie.Need-returns Inv-loop μ-loop
-returns c = let at = c .before in
-    (omega (arith, at .loop .inv .0, at .loop .inv .1), all-probed _ _ _ _ _ _ _ _ _ _ _ (c .loop-test .left) (at .loop .inv .6))
+same-length-5 : tie.Need-same-length-5 Inv-loop μ-loop
+same-length-5 c = search needs
 
 pub find-points-spec : {M : Type 1} → statement M
 find-points-spec =
@@ -99,4 +104,5 @@ find-points-spec =
     same-length-2
     same-length-3
     same-length-4
+    same-length-5
     returns)

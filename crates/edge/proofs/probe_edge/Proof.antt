@@ -1,6 +1,6 @@
 -- `edge::probe_edge` meets its contract, by those of what it calls. Assumes nothing.
-use borrow.Author.Needs.{needs}
 use Rattle.edge.specs.Edge.{probed}
+use borrow.Author.Needs.{needs}
 use Rattle.edge.proofs.probe_edge.Statement.{statement}
 use Rattle.edge.proofs.probe_edge.Tie as tie
 
@@ -25,10 +25,13 @@ aim-requires c κs = search needs
 same-length : tie.Need-same-length
 same-length c = search needs
 
+same-length-2 : tie.Need-same-length-2
+same-length-2 c = search needs
+
 returns : tie.Need-returns
 unfolding probed
-returns c = let at = c .before .before .before .before .before .before .before .before in
-    rw (← at .before .before .before .beside .ensures, ← at .before .before .beside2 .ensures, ← at .before .map2 .ensures, ← at .map3 .ensures) (c .before .before .aim .ensures)
+returns c = let at = c .before .before .before .before .before .before .before .before .before .before .before in
+    rw (← at .before .before .before .beside .ensures, ← at .before .before .beside2 .ensures, ← at .before .map2 .ensures, ← at .map3 .ensures) (c .before .before .before .before .aim .ensures)
 
 pub probe-edge-spec : {M : Type 1} → statement M
 probe-edge-spec =
@@ -41,4 +44,5 @@ probe-edge-spec =
     map-requires-2
     aim-requires
     same-length
+    same-length-2
     returns)

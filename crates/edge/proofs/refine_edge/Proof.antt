@@ -1,7 +1,7 @@
 -- `edge::refine_edge` meets its contract: corners that coincide end it unread, else the probes are the definition's and the call runs the rest. Assumes nothing.
-use borrow.Author.Needs.{needs}
-use Rattle.look.proofs.Steps.{start, end}
 use Rattle.edge.specs.Edge.{edge}
+use Rattle.look.proofs.Steps.{start, end}
+use borrow.Author.Needs.{needs}
 use Rattle.edge.proofs.refine_edge.Statement.{statement}
 use Rattle.edge.proofs.refine_edge.Tie as tie
 
@@ -10,13 +10,13 @@ length-of-requires c κs = search needs
 
 returns : tie.Need-returns
 unfolding edge
-returns c = rw (← c .before .length-of .ensures, c .if1 .taken) (end _ _ (start _ _ _ _ _))
+returns c = rw (← c .before .length-of .ensures, c .if1 .taken) (end _ (start _ _ _))
 
 probes-of-requires : tie.Need-probes-of-requires
 probes-of-requires c κs = search needs
 
-int-to-float-fit-probes : tie.Need-int-to-float-fit-probes
-int-to-float-fit-probes c = search needs
+int-to-float-module-px : tie.Need-int-to-float-module-px
+int-to-float-module-px c = search needs
 
 fit-probes-requires : tie.Need-fit-probes-requires
 fit-probes-requires c κs = search needs
@@ -24,9 +24,12 @@ fit-probes-requires c κs = search needs
 same-length : tie.Need-same-length
 same-length c = search needs
 
+same-length-2 : tie.Need-same-length-2
+same-length-2 c = search needs
+
 returns-2 : tie.Need-returns-2
 unfolding edge
-returns-2 c = rw (← c .before .before .before .before .before .before .before .length-of .ensures, c .before .before .before .before .before .before .if1 .left, ← c .before .before .before .before .before .probes-of .ensures .probes) (c .before .before .fit-probes .ensures)
+returns-2 c = rw (← c .before .before .before .before .before .before .before .before .before .before .length-of .ensures, c .before .before .before .before .before .before .before .before .before .if1 .left, ← c .before .before .before .before .before .before .before .before .probes-of .ensures .probes) (c .before .before .before .before .fit-probes .ensures)
 
 pub refine-edge-spec : {M : Type 1} → statement M
 refine-edge-spec =
@@ -35,7 +38,8 @@ refine-edge-spec =
     length-of-requires
     returns
     probes-of-requires
-    int-to-float-fit-probes
+    int-to-float-module-px
     fit-probes-requires
     same-length
+    same-length-2
     returns-2)

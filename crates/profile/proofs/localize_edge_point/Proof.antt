@@ -1,7 +1,8 @@
 -- `localize_edge_point` meets its contract: the number of the view, and then a case for each end of `localize`. Assumes nothing.
-use mathlib.Core.Path.{_∙_}
-use Rattle.profile.specs.Profile.{pointAnswer}
 use Rattle.profile.proofs.Answers.{refused, ended}
+use Rattle.profile.specs.Profile.{pointAnswer}
+use Rattle.look.proofs.Meaning.{ran-value}
+use mathlib.Core.Path.{_∙_}
 use borrow.Author.Needs.{needs}
 use Rattle.profile.proofs.localize_edge_point.Statement.{statement}
 use Rattle.profile.proofs.localize_edge_point.Tie as tie
@@ -13,13 +14,16 @@ no-point-requires : tie.Need-no-point-requires
 no-point-requires c κs = search needs
 
 returns : tie.Need-returns
-returns c = c .no-point .ensures ∙ refused _ _ _ _ _ _ _ _ _ _ (c .before .before .view-number .ensures) (c .before .if1 .taken)
+returns c = c .no-point .ensures ∙ refused _ _ _ _ (c .before .before .view-number .ensures) (c .before .if1 .taken)
 
 defaults-requires : tie.Need-defaults-requires
 defaults-requires c κs = search needs
 
 slice-aggregate-localize : tie.Need-slice-aggregate-localize
 slice-aggregate-localize c = search needs
+
+slice-aggregate-localize-2 : tie.Need-slice-aggregate-localize-2
+slice-aggregate-localize-2 c = search needs
 
 localize-requires : tie.Need-localize-requires
 localize-requires c κs = search needs
@@ -35,11 +39,11 @@ no-point-requires-2 c κs = search needs
 
 returns-2 : tie.Need-returns-2
 unfolding pointAnswer
-returns-2 c = ended _ _ _ _ _ _ _ _ _ _ (c .before .before .before .before .before .before .before .before .view-number .ensures) (c .before .before .before .before .before .before .before .if1 .left) (c .before .before .before .before .before .before .defaults .ensures) (c .before .before .before .before .localize .ensures .answer) (c .before .located .given .1)
+returns-2 c = ended _ _ _ _ (c .before .before .before .before .before .before .before .before .before .before .view-number .ensures) (c .before .before .before .before .before .before .before .before .before .if1 .left) (c .before .before .before .before .before .before .before .before .defaults .ensures) (ran-value _ _ (c .before .before .before .before .before .localize .ensures)) (c .before .located .given .1)
 
 returns-3 : tie.Need-returns-3
 unfolding pointAnswer
-returns-3 c = c .no-point2 .ensures ∙ ended _ _ _ _ _ _ _ _ _ _ (c .before .before .before .before .before .before .before .before .view-number .ensures) (c .before .before .before .before .before .before .before .if1 .left) (c .before .before .before .before .before .before .defaults .ensures) (c .before .before .before .before .localize .ensures .answer) (c .before .enum-told .given .1)
+returns-3 c = c .no-point2 .ensures ∙ ended _ _ _ _ (c .before .before .before .before .before .before .before .before .before .before .view-number .ensures) (c .before .before .before .before .before .before .before .before .before .if1 .left) (c .before .before .before .before .before .before .before .before .defaults .ensures) (ran-value _ _ (c .before .before .before .before .before .localize .ensures)) (c .before .enum-told .given .1)
 
 pub localize-edge-point-spec : {M : Type 1} → statement M
 localize-edge-point-spec =
@@ -50,6 +54,7 @@ localize-edge-point-spec =
     returns
     defaults-requires
     slice-aggregate-localize
+    slice-aggregate-localize-2
     localize-requires
     enum-known-located
     enum-told

@@ -1,26 +1,25 @@
 -- `further_rounds` meets its contract. The loop's invariant: what is left of the tree are the rounds after `round`, from the answer that there is.
 -- Assumes nothing.
 use Prim.Native.Nat.{_-_}
-use mathlib.Core.Path.{_≡_, refl, _∙_}
 use native.Mathlib.Omega.{arith}
-use lib.ListN.{length}
 use borrow.Author.Needs.{needs}
-use Rattle.grid.specs.Grids.{gridOf}
 use Rattle.sampling.specs.Photographs.{photo}
+use Rattle.look.specs.Run.{state, sampler}
+use Rattle.look.proofs.Meaning.{sheet-long, copy-long}
 use Rattle.rounds.proofs.RoundByRound.{Left, first-only, weak-round, round-stops, next-round, all-ran}
 use Rattle.rounds.proofs.further_rounds.Statement.{statement}
 use Rattle.rounds.proofs.further_rounds.Tie as tie
 
 abbrev Inv-loop : tie.InvT-loop
-Inv-loop settings bytes stride scene sheet₀ modules dim inverted answer₀ meter₀ round₀ sheet answer meter round =
-    (length sheet ≡ length sheet₀) × Left scene (photo bytes stride) settings (gridOf dim modules) inverted answer₀ sheet₀ meter₀ round answer sheet meter
+Inv-loop task bytes modules sheet₀ copy₀ answer₀ meter₀ round₀ sheet copy answer meter round =
+    Left (sampler (task .scene) (photo bytes (task .stride))) (task .plan) modules answer₀ (state sheet₀ copy₀ meter₀) round answer (state sheet copy meter)
 
 abbrev μ-loop : tie.MeasureT-loop
-μ-loop settings bytes stride scene sheet₀ modules dim inverted answer₀ meter₀ round₀ sheet answer meter round =
-    settings .rounds - round
+μ-loop task bytes modules sheet₀ copy₀ answer₀ meter₀ round₀ sheet copy answer meter round =
+    task .plan .settings .rounds - round
 
 loop-holds : tie.Need-loop-holds Inv-loop μ-loop
-loop-holds c = (refl, first-only _ _ _ _ _ _ _ _)
+loop-holds c = first-only _ _ _ _ _
 
 next-round-requires : tie.Need-next-round-requires Inv-loop μ-loop
 next-round-requires c κs = search needs
@@ -28,35 +27,34 @@ next-round-requires c κs = search needs
 is-weak-requires : tie.Need-is-weak-requires Inv-loop μ-loop
 is-weak-requires c κs = search needs
 
-same-length : tie.Need-same-length Inv-loop μ-loop
-same-length c =
-    let ran = c .before .before .before .before .before .before in
-    let turn = ran .before .before in
-    ran .next-round .kept .1 .1 .1 .1 .0 ∙ turn .before .before .loop .inv .0
-
 returns : tie.Need-returns Inv-loop μ-loop
 returns c =
-    let ran = c .before .before .before .before .before .before in
-    let turn = ran .before .before in
-    weak-round _ _ _ _ _ _ _ (turn .if1 .taken) (turn .before .before .loop .inv .1) (ran .next-round .ensures) (c .before .is-weak .ensures) (c .if2 .taken)
+    let ran = c .before .before .before .before .before .before .before .before in
+    let turn = ran .before .before .before in
+    weak-round _ _ _ _ _ (turn .if1 .taken) (turn .before .before .loop .inv) (ran .next-round .ensures) (c .before .is-weak .ensures) (c .if2 .taken)
+
+same-length : tie.Need-same-length Inv-loop μ-loop
+same-length c = sheet-long _ _ (returns c)
 
 same-length-2 : tie.Need-same-length-2 Inv-loop μ-loop
-same-length-2 c =
-    let weak = c .before .before in
-    let ran = weak .before .before .before .before .before .before in
-    let turn = ran .before .before in
-    ran .next-round .kept .1 .1 .1 .1 .0 ∙ turn .before .before .loop .inv .0
+same-length-2 c = copy-long _ _ (returns c)
 
 returns-2 : tie.Need-returns-2 Inv-loop μ-loop
 returns-2 c =
     let weak = c .before .before in
-    let ran = weak .before .before .before .before .before .before in
-    let turn = ran .before .before in
-    round-stops _ _ _ _ _ _ _ (turn .if1 .taken) (turn .before .before .loop .inv .1) (ran .next-round .ensures) (weak .before .is-weak .ensures) (weak .if2 .left) (c .if3 .taken)
+    let ran = weak .before .before .before .before .before .before .before .before in
+    let turn = ran .before .before .before in
+    round-stops _ _ _ _ _ (turn .if1 .taken) (turn .before .before .loop .inv) (ran .next-round .ensures) (weak .before .is-weak .ensures) (weak .if2 .left) (c .if3 .taken)
+
+same-length-3 : tie.Need-same-length-3 Inv-loop μ-loop
+same-length-3 c = sheet-long _ _ (returns-2 c)
+
+same-length-4 : tie.Need-same-length-4 Inv-loop μ-loop
+same-length-4 c = copy-long _ _ (returns-2 c)
 
 add-round : tie.Need-add-round Inv-loop μ-loop
 add-round c =
-    let turn = c .before .before .before .before .before .before .before .before .before .before in
+    let turn = c .before .before .before .before .before .before .before .before .before .before .before .before .before in
     omega (arith, turn .before .struct-known .given, turn .if1 .taken)
 
 loop-less : tie.Need-loop-less Inv-loop μ-loop
@@ -65,17 +63,18 @@ loop-less c = search needs
 loop-again : tie.Need-loop-again Inv-loop μ-loop
 loop-again c =
     let weak = c .before .before in
-    let ran = weak .before .before .before .before .before .before in
-    let turn = ran .before .before in (
-      ran .next-round .kept .1 .1 .1 .1 .0 ∙ turn .before .before .loop .inv .0,
-      next-round _ _ _ _ _ _ _ (turn .if1 .taken) (turn .before .before .loop .inv .1) (ran .next-round .ensures) (weak .before .is-weak .ensures) (weak .if2 .left) (c .if3 .left),
-    )
-
-same-length-3 : tie.Need-same-length-3 Inv-loop μ-loop
-same-length-3 c = c .before .before .loop .inv .0
+    let ran = weak .before .before .before .before .before .before .before .before in
+    let turn = ran .before .before .before in
+    next-round _ _ _ _ _ (turn .if1 .taken) (turn .before .before .loop .inv) (ran .next-round .ensures) (weak .before .is-weak .ensures) (weak .if2 .left) (c .if3 .left)
 
 returns-3 : tie.Need-returns-3 Inv-loop μ-loop
-returns-3 c = all-ran _ _ _ _ _ _ _ (c .if1 .left) (c .before .before .loop .inv .1)
+returns-3 c = all-ran _ _ _ _ _ (c .if1 .left) (c .before .before .loop .inv)
+
+same-length-5 : tie.Need-same-length-5 Inv-loop μ-loop
+same-length-5 c = sheet-long _ _ (returns-3 c)
+
+same-length-6 : tie.Need-same-length-6 Inv-loop μ-loop
+same-length-6 c = copy-long _ _ (returns-3 c)
 
 pub further-rounds-spec : {M : Type 1} → statement M
 further-rounds-spec =
@@ -87,11 +86,14 @@ further-rounds-spec =
     next-round-requires
     is-weak-requires
     same-length
-    returns
     same-length-2
+    returns
+    same-length-3
+    same-length-4
     returns-2
     add-round
     loop-less
     loop-again
-    same-length-3
+    same-length-5
+    same-length-6
     returns-3)

@@ -1,6 +1,6 @@
 -- `refine_round` meets its contract: no map ends it, and else its edges ran. Assumes nothing.
-use borrow.Author.Needs.{needs}
 use Rattle.rounds.proofs.RoundByRound.{no-map, edges-ran}
+use borrow.Author.Needs.{needs}
 use Rattle.rounds.proofs.refine_round.Statement.{statement}
 use Rattle.rounds.proofs.refine_round.Tie as tie
 
@@ -23,13 +23,16 @@ round-end-requires : tie.Need-round-end-requires
 round-end-requires c κs = search needs
 
 returns : tie.Need-returns
-returns c = no-map _ _ _ _ _ _ (c .before .before .before .quad-map .ensures) _ _ (c .before .enum-told .given .1) (c .refused .ensures)
+returns c = no-map _ _ _ _ (c .before .before .before .quad-map .ensures) _ (c .before .enum-told .given .1) (c .refused .ensures)
 
 same-length : tie.Need-same-length
 same-length c = search needs
 
+same-length-2 : tie.Need-same-length-2
+same-length-2 c = search needs
+
 returns-2 : tie.Need-returns-2
-returns-2 c = edges-ran _ _ _ _ _ _ (c .before .before .before .before .before .before .before .before .before .before .quad-map .ensures) (c .before .before .before .before .before .before .before .before .map .given .1) (c .before .before .before .before .before .fit-edges .ensures) (c .round-end .ensures)
+returns-2 c = edges-ran _ _ _ _ (c .before .before .before .before .before .before .before .before .before .before .before .before .before .quad-map .ensures) (c .before .before .before .before .before .before .before .before .before .before .before .map .given .1) (c .before .before .before .before .before .before .before .fit-edges .ensures) (c .round-end .ensures)
 
 pub refine-round-spec : {M : Type 1} → statement M
 refine-round-spec =
@@ -43,4 +46,5 @@ refine-round-spec =
     round-end-requires
     returns
     same-length
+    same-length-2
     returns-2)

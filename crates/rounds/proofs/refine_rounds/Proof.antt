@@ -1,6 +1,6 @@
 -- `refine_rounds` meets its contract: the first round ends it, or the further ones ran behind it. Assumes nothing.
-use borrow.Author.Needs.{needs}
 use Rattle.rounds.proofs.RoundByRound.{first-stops, rounds-ran}
+use borrow.Author.Needs.{needs}
 use Rattle.rounds.proofs.refine_rounds.Statement.{statement}
 use Rattle.rounds.proofs.refine_rounds.Tie as tie
 
@@ -10,17 +10,23 @@ refine-round-requires c κs = search needs
 same-length : tie.Need-same-length
 same-length c = search needs
 
+same-length-2 : tie.Need-same-length-2
+same-length-2 c = search needs
+
 returns : tie.Need-returns
-returns c = first-stops _ _ _ _ _ _ (c .before .before .before .before .before .refine-round .ensures) (c .if1 .taken)
+returns c = first-stops _ _ _ _ (c .before .before .before .before .before .before .before .refine-round .ensures) (c .if1 .taken)
 
 further-rounds-requires : tie.Need-further-rounds-requires
 further-rounds-requires c κs = search needs
 
-same-length-2 : tie.Need-same-length-2
-same-length-2 c = search needs
+same-length-3 : tie.Need-same-length-3
+same-length-3 c = search needs
+
+same-length-4 : tie.Need-same-length-4
+same-length-4 c = search needs
 
 returns-2 : tie.Need-returns-2
-returns-2 c = rounds-ran _ _ _ _ _ _ (c .before .before .before .before .before .before .before .before .before .refine-round .ensures) (c .before .before .before .before .if1 .left) (c .before .before .further-rounds .ensures)
+returns-2 c = rounds-ran _ _ _ _ (c .before .before .before .before .before .before .before .before .before .before .before .before .before .before .refine-round .ensures) (c .before .before .before .before .before .before .before .if1 .left) (c .before .before .before .before .further-rounds .ensures)
 
 pub refine-rounds-spec : {M : Type 1} → statement M
 refine-rounds-spec =
@@ -28,7 +34,9 @@ refine-rounds-spec =
     (tie.spec
     refine-round-requires
     same-length
+    same-length-2
     returns
     further-rounds-requires
-    same-length-2
+    same-length-3
+    same-length-4
     returns-2)

@@ -1,30 +1,27 @@
--- `blended` meets its contract: four pixels, each of which ensures its value. Assumes nothing.
-use Rattle.sampling.proofs.Shades.{four-shades}
+-- `blended` meets its contract: it is the definition, term by term. Assumes nothing.
+use Rattle.sampling.specs.Sampling.{blend}
+use mathlib.Core.Path.{refl}
 use borrow.Author.Needs.{needs}
 use Rattle.sampling.proofs.blended.Statement.{statement}
 use Rattle.sampling.proofs.blended.Tie as tie
 
-pixel-at-requires : tie.Need-pixel-at-requires
-pixel-at-requires c κs = search needs
+int-to-float-v00 : tie.Need-int-to-float-v00
+int-to-float-v00 c = search needs
 
-pixel-at-requires-2 : tie.Need-pixel-at-requires-2
-pixel-at-requires-2 c κs = search needs
+int-to-float-v10 : tie.Need-int-to-float-v10
+int-to-float-v10 c = search needs
 
-pixel-at-requires-3 : tie.Need-pixel-at-requires-3
-pixel-at-requires-3 c κs = search needs
+int-to-float-v01 : tie.Need-int-to-float-v01
+int-to-float-v01 c = search needs
 
-pixel-at-requires-4 : tie.Need-pixel-at-requires-4
-pixel-at-requires-4 c κs = search needs
+int-to-float-v11 : tie.Need-int-to-float-v11
+int-to-float-v11 c = search needs
 
 returns : tie.Need-returns
-returns c = four-shades _ _ _ _ _ _ (c .before .before .before .pixel-at .ensures) (c .before .before .pixel-at2 .ensures) (c .before .pixel-at3 .ensures) (c .pixel-at4 .ensures)
+unfolding blend
+returns c = refl
 
 pub blended-spec : {M : Type 1} → statement M
 blended-spec =
     tie.close
-    (tie.spec
-    pixel-at-requires
-    pixel-at-requires-2
-    pixel-at-requires-3
-    pixel-at-requires-4
-    returns)
+    (tie.spec int-to-float-v00 int-to-float-v10 int-to-float-v01 int-to-float-v11 returns)

@@ -1,8 +1,7 @@
 -- `pixel_at` meets its contract: the place is what `place` ensures. Assumes nothing.
-use mathlib.Core.Path.{ap, _∙_}
-use Prim.Native.Nat.{ℕ}
 use lib.ListN.{getD}
-use Rattle.ieee.specs.Floats.{float}
+use Prim.Native.Nat.{ℕ}
+use mathlib.Core.Path.{ap, _∙_}
 use borrow.Author.Needs.{needs}
 use Rattle.sampling.proofs.pixel_at.Statement.{statement}
 use Rattle.sampling.proofs.pixel_at.Tie as tie
@@ -13,11 +12,8 @@ place-requires c κs = search needs
 byte-at-requires : tie.Need-byte-at-requires
 byte-at-requires c κs = search needs
 
-int-to-float-result : tie.Need-int-to-float-result
-int-to-float-result c = search needs
-
 returns : tie.Need-returns
-returns c = ap (λ (n : ℕ). float n) (c .before .byte-at .ensures ∙ ap (λ (n : ℕ). getD (c .before .before .before .before .args .bytes .now) n 0) (c .before .before .place .ensures))
+returns c = c .byte-at .ensures ∙ ap (λ (n : ℕ). getD (c .before .before .before .args .bytes .now) n 0) (c .before .place .ensures)
 
 pub pixel-at-spec : {M : Type 1} → statement M
-pixel-at-spec = tie.close (tie.spec place-requires byte-at-requires int-to-float-result returns)
+pixel-at-spec = tie.close (tie.spec place-requires byte-at-requires returns)

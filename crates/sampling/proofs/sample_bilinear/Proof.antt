@@ -1,6 +1,6 @@
--- `sample_bilinear` meets its contract: the photograph's number, and then a case for each answer of `show`. Assumes nothing.
-use Rattle.sampling.specs.Sampling.{lumaAnswer}
+-- `sample_bilinear` meets its contract: the photograph's number, and then a case for each answer of `shade_at`. Assumes nothing.
 use Rattle.sampling.proofs.Answers.{refused, shown}
+use Rattle.sampling.specs.Sampling.{lumaAnswer}
 use borrow.Author.Needs.{needs}
 use Rattle.sampling.proofs.sample_bilinear.Statement.{statement}
 use Rattle.sampling.proofs.sample_bilinear.Tie as tie
@@ -14,11 +14,8 @@ returns c = refused _ _ _ _ _ _ _ (c .before .photograph-number .ensures) (c .if
 spot-at-requires : tie.Need-spot-at-requires
 spot-at-requires c κs = search needs
 
-slice-aggregate-show : tie.Need-slice-aggregate-show
-slice-aggregate-show c = search needs
-
-show-requires : tie.Need-show-requires
-show-requires c κs = search needs
+shade-at-requires : tie.Need-shade-at-requires
+shade-at-requires c κs = search needs
 
 enum-known-sampled : tie.Need-enum-known-sampled
 enum-known-sampled c = search needs
@@ -28,11 +25,11 @@ enum-told c = search needs
 
 returns-2 : tie.Need-returns-2
 unfolding lumaAnswer
-returns-2 c = shown _ _ _ _ _ _ _ (c .before .before .before .before .before .before .before .before .photograph-number .ensures) (c .before .before .before .before .before .before .before .if1 .left) (c .before .before .before .before .before .before .spot-at .ensures) (c .before .before .before .before .show .ensures .answer) (c .before .sampled .given .1)
+returns-2 c = shown _ _ _ _ _ _ _ (c .before .before .before .before .before .before .photograph-number .ensures) (c .before .before .before .before .before .if1 .left) (c .before .before .before .before .spot-at .ensures) (c .before .before .before .shade-at .ensures) (c .before .sampled .given .1)
 
 returns-3 : tie.Need-returns-3
 unfolding lumaAnswer
-returns-3 c = shown _ _ _ _ _ _ _ (c .before .before .before .before .before .before .before .photograph-number .ensures) (c .before .before .before .before .before .before .if1 .left) (c .before .before .before .before .before .spot-at .ensures) (c .before .before .before .show .ensures .answer) (c .enum-told .given .1)
+returns-3 c = shown _ _ _ _ _ _ _ (c .before .before .before .before .before .photograph-number .ensures) (c .before .before .before .before .if1 .left) (c .before .before .before .spot-at .ensures) (c .before .before .shade-at .ensures) (c .enum-told .given .1)
 
 pub sample-bilinear-spec : {M : Type 1} → statement M
 sample-bilinear-spec =
@@ -41,8 +38,7 @@ sample-bilinear-spec =
     photograph-number-requires
     returns
     spot-at-requires
-    slice-aggregate-show
-    show-requires
+    shade-at-requires
     enum-known-sampled
     enum-told
     returns-2

@@ -1,5 +1,8 @@
 -- `show` meets its contract: a case for each spot. Assumes nothing.
 use Rattle.sampling.proofs.Shades.{shows-off, shows-edging, shows-among}
+use Rattle.sampling.specs.Sampling.{Ordered}
+use Rattle.sampling.specs.declared.Spot.{Spot}
+use mathlib.Core.Path.{subst}
 use borrow.Author.Needs.{needs}
 use Rattle.sampling.proofs.show.Statement.{statement}
 use Rattle.sampling.proofs.show.Tie as tie
@@ -10,14 +13,18 @@ enum-told c = search needs
 enum-known-spot : tie.Need-enum-known-spot
 enum-known-spot c = search needs
 
-int-to-float-t14 : tie.Need-int-to-float-t14
-int-to-float-t14 c = search needs
+int-to-float-t16 : tie.Need-int-to-float-t16
+int-to-float-t16 c = search needs
 
 enum-known-spot-2 : tie.Need-enum-known-spot-2
 enum-known-spot-2 c = search needs
 
+cell-at-requires : tie.Need-cell-at-requires
+cell-at-requires c κs = search needs
+
 mark-cell-requires : tie.Need-mark-cell-requires
-mark-cell-requires c κs = search needs
+unfolding Ordered
+mark-cell-requires c κs = subst (λ (z : Spot). Ordered z) (c .before .before .before .before .spot2 .given .1) (c .before .before .before .before .before .before .before .before .before .pre)
 
 blended-requires : tie.Need-blended-requires
 blended-requires c κs = search needs
@@ -31,8 +38,11 @@ returns-2 c = shows-edging _ _ _ (c .before .before .spot .given .1)
 same-length : tie.Need-same-length
 same-length c = search needs
 
+same-length-2 : tie.Need-same-length-2
+same-length-2 c = search needs
+
 returns-3 : tie.Need-returns-3
-returns-3 c = shows-among _ _ _ _ _ _ _ _ _ (c .before .before .before .before .before .before .spot2 .given .1) (c .before .before .before .mark-cell .ensures) (c .blended .ensures)
+returns-3 c = shows-among _ _ _ _ _ _ _ _ _ (c .before .before .before .before .before .before .before .before .before .before .spot2 .given .1) (c .before .before .before .before .before .before .before .before .cell-at .ensures) (c .before .before .before .before .before .mark-cell .ensures) (c .blended .ensures)
 
 pub show-spec : {M : Type 1} → statement M
 show-spec =
@@ -40,11 +50,13 @@ show-spec =
     (tie.spec
     enum-told
     enum-known-spot
-    int-to-float-t14
+    int-to-float-t16
     enum-known-spot-2
+    cell-at-requires
     mark-cell-requires
     blended-requires
     returns
     returns-2
     same-length
+    same-length-2
     returns-3)

@@ -2,7 +2,6 @@
 use mathlib.Core.Path.{sym, _∙_}
 use borrow.Author.Tests.{not-true, not-false}
 use borrow.Author.Needs.{needs}
-use Rattle.cards.proofs.Asked.{asked-request, asked-photograph}
 use Rattle.cards.proofs.Marked.{malformed-marks, asked-marks}
 use Rattle.cards.proofs.job_marking.run_job_marking.Statement.{statement}
 use Rattle.cards.proofs.job_marking.run_job_marking.Tie as tie
@@ -18,17 +17,17 @@ returns c =
     let bad = sym (c .before .before .is-good .ensures) ∙ not-true _ (c .before .if1 .taken) in
     malformed-marks _ _ _ _ bad (c .refused .ensures)
 
-asked-of-requires : tie.Need-asked-of-requires
-asked-of-requires c κs = search needs
-
 part-requires : tie.Need-part-requires
 part-requires c κs = search needs
 
-part-requires-2 : tie.Need-part-requires-2
-part-requires-2 c κs = search needs
+stride-of-requires : tie.Need-stride-of-requires
+stride-of-requires c κs = search needs
 
-behind-first-requires : tie.Need-behind-first-requires
-behind-first-requires c κs = search needs
+modules-of-requires : tie.Need-modules-of-requires
+modules-of-requires c κs = search needs
+
+request-of-requires : tie.Need-request-of-requires
+request-of-requires c κs = search needs
 
 refine-corners-mapped-marking-requires : tie.Need-refine-corners-mapped-marking-requires
 refine-corners-mapped-marking-requires c κs = search needs
@@ -42,14 +41,10 @@ same-length-2 c = search needs
 returns-2 : tie.Need-returns-2
 returns-2 c =
     let ran = c .before .before .before .before in
-    let parts = ran .before .before .before in
-    let asked = parts .before .before .before .before in
-    let at-if = asked .before in
-    let asks = asked .asked-of .ensures in
-    let good = sym (at-if .before .is-good .ensures) ∙ not-false _ (at-if .if1 .left) in
-    let request = asked-request _ _ asks _ _ (parts .before .part2 .ensures) (parts .behind-first .ensures) in
-    let photograph = asked-photograph _ _ asks _ (parts .before .before .part .ensures) in
-    asked-marks _ _ _ _ _ _ _ _ good request photograph (ran .refine-corners-mapped-marking .ensures)
+    let asked = ran .before .before .before in
+    let lies = asked .before .before .before in
+    let good = sym (lies .before .before .is-good .ensures) ∙ not-false _ (lies .before .if1 .left) in
+    asked-marks _ _ _ _ _ _ _ _ _ _ good (asked .request-of .ensures) (asked .before .modules-of .ensures) (lies .part .ensures) (asked .before .before .stride-of .ensures) (ran .refine-corners-mapped-marking .ensures)
 
 pub run-job-marking-spec : {M : Type 1} → statement M
 run-job-marking-spec =
@@ -58,10 +53,10 @@ run-job-marking-spec =
     is-good-requires
     refused-requires
     returns
-    asked-of-requires
     part-requires
-    part-requires-2
-    behind-first-requires
+    stride-of-requires
+    modules-of-requires
+    request-of-requires
     refine-corners-mapped-marking-requires
     same-length
     same-length-2

@@ -2,7 +2,8 @@
 use mathlib.Core.Path.{_≡_}
 use borrow.Author.Needs.{needs}
 use lib.ListN.{length}
-use Rattle.cards.proofs.Writes.{length-mapped, card-written}
+use Rattle.refine.proofs.Corners.{length-mapped}
+use Rattle.cards.proofs.Writes.{card-written}
 use Rattle.cards.proofs.result_card.put_result.Statement.{statement}
 use Rattle.cards.proofs.result_card.put_result.Tie as tie
 

@@ -1,12 +1,11 @@
 -- `trufolmesca_refine_corners` meets its contract: it writes what the refinement answers. Assumes nothing.
-use Rattle.export.specs.Calls.{lentJob}
-use Rattle.export.proofs.Written.{written-as}
 use borrow.Author.Needs.{needs}
+use Rattle.export.proofs.Written.{written-as}
 use Rattle.export.proofs.calls.trufolmesca_refine_corners.Statement.{statement}
 use Rattle.export.proofs.calls.trufolmesca_refine_corners.Tie as tie
 
-working-of-requires : tie.Need-working-of-requires
-working-of-requires c κs = search needs
+request-of-requires : tie.Need-request-of-requires
+request-of-requires c κs = search needs
 
 refine-corners-requires : tie.Need-refine-corners-requires
 refine-corners-requires c κs = search needs
@@ -21,15 +20,16 @@ same-length-2 : tie.Need-same-length-2
 same-length-2 c = search needs
 
 returns : tie.Need-returns
-unfolding lentJob
 returns c =
-    written-as (simp (c .before .before .before .before .before .before .before .refine-corners .ensures, c .before .before .before .before .before .before .before .before .working-of .ensures)) (c .before .before .before .before .put-answer .ensures)
+    let wrote = c .before .before .before .before in
+    let ran = wrote .before .before .before in
+    written-as (rw (ran .before .request-of .ensures) at (ran .refine-corners .ensures)) (wrote .put-answer .ensures)
 
 pub trufolmesca-refine-corners-spec : {M : Type 1} → statement M
 trufolmesca-refine-corners-spec =
     tie.close
     (tie.spec
-    working-of-requires
+    request-of-requires
     refine-corners-requires
     put-answer-requires
     same-length

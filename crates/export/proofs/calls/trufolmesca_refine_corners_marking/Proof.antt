@@ -1,11 +1,11 @@
 -- `trufolmesca_refine_corners_marking` meets its contract: it writes what the marking call answers, which leaves sheet and copy. Assumes nothing.
-use Rattle.export.proofs.Written.{marked-as}
 use borrow.Author.Needs.{needs}
+use Rattle.export.proofs.Written.{marked-as}
 use Rattle.export.proofs.calls.trufolmesca_refine_corners_marking.Statement.{statement}
 use Rattle.export.proofs.calls.trufolmesca_refine_corners_marking.Tie as tie
 
-working-of-requires : tie.Need-working-of-requires
-working-of-requires c κs = search needs
+request-of-requires : tie.Need-request-of-requires
+request-of-requires c κs = search needs
 
 refine-corners-marking-requires : tie.Need-refine-corners-marking-requires
 refine-corners-marking-requires c κs = search needs
@@ -29,13 +29,13 @@ returns : tie.Need-returns
 returns c =
     let wrote = c .before .before .before .before in
     let ran = wrote .before .before .before .before .before .before .before in
-    marked-as (simp (ran .before .before .before .working-of .ensures)) (ran .refine-corners-marking .ensures) (wrote .put-answer .ensures)
+    marked-as (rw (ran .before .before .before .request-of .ensures)) (ran .refine-corners-marking .ensures) (wrote .put-answer .ensures)
 
 pub trufolmesca-refine-corners-marking-spec : {M : Type 1} → statement M
 trufolmesca-refine-corners-marking-spec =
     tie.close
     (tie.spec
-    working-of-requires
+    request-of-requires
     refine-corners-marking-requires
     put-answer-requires
     same-length

@@ -1,14 +1,16 @@
 -- `trufolmesca_refine_corners_mapped_marking` meets its contract: it writes what the marking call answers, which leaves sheet and copy. Assumes nothing.
-use Rattle.export.proofs.Written.{marked-as}
 use borrow.Author.Needs.{needs}
-use Rattle.export.proofs.mapped.trufolmesca_refine_corners_mapped_marking.Statement.{statement}
+use Rattle.export.proofs.Written.{marked-as}
+use Rattle.export.proofs.mapped.trufolmesca_refine_corners_mapped_marking.Statement.{
+  statement,
+}
 use Rattle.export.proofs.mapped.trufolmesca_refine_corners_mapped_marking.Tie as tie
-
-working-of-requires : tie.Need-working-of-requires
-working-of-requires c κs = search needs
 
 view-of-requires : tie.Need-view-of-requires
 view-of-requires c κs = search needs
+
+request-of-requires : tie.Need-request-of-requires
+request-of-requires c κs = search needs
 
 refine-corners-mapped-marking-requires : tie.Need-refine-corners-mapped-marking-requires
 refine-corners-mapped-marking-requires c κs = search needs
@@ -32,14 +34,14 @@ returns : tie.Need-returns
 returns c =
     let wrote = c .before .before .before .before in
     let ran = wrote .before .before .before .before .before .before .before in
-    marked-as (simp (ran .before .before .before .before .working-of .ensures, ran .before .before .before .view-of .ensures)) (ran .refine-corners-mapped-marking .ensures) (wrote .put-answer .ensures)
+    marked-as (rw (ran .before .before .before .request-of .ensures, ran .before .before .before .before .view-of .ensures)) (ran .refine-corners-mapped-marking .ensures) (wrote .put-answer .ensures)
 
 pub trufolmesca-refine-corners-mapped-marking-spec : {M : Type 1} → statement M
 trufolmesca-refine-corners-mapped-marking-spec =
     tie.close
     (tie.spec
-    working-of-requires
     view-of-requires
+    request-of-requires
     refine-corners-mapped-marking-requires
     put-answer-requires
     same-length

@@ -1,8 +1,11 @@
 -- `source_corners` meets its contract: the division of each of four, written out. Assumes nothing.
+use mathlib.Core.Path.{_≡_}
+use lib.ListN.{length}
 use lib.Ieee.{nan}
 use borrow.Author.Needs.{needs}
 use Rattle.pixel.specs.Pixels.{toSource}
-use Rattle.refine.proofs.Corners.{four-of}
+use Rattle.refine.specs.Refine.{sourceCorners}
+use Rattle.refine.proofs.Corners.{four-of, length-mapped}
 use Rattle.refine.proofs.entry.source_corners.Statement.{statement}
 use Rattle.refine.proofs.entry.source_corners.Tie as tie
 
@@ -30,14 +33,18 @@ array-copy-out-to-source-4 c = search needs
 to-source-requires-4 : tie.Need-to-source-requires-4
 to-source-requires-4 c κs = search needs
 
+four-corners : (start : tie.Start) → length (start .args .request .corners) ≡ 4
+four-corners start = search (needs, length-mapped)
+
 returns : tie.Need-returns
+unfolding sourceCorners
 returns c =
     let third = c .before .before in
     let second = third .before .before in
     let first = second .before .before in
-    let a = first .before .before .args in
+    let a = first .before .before .before .args .request in
     rw (first .to-source .ensures, second .to-source2 .ensures, third .to-source3 .ensures, c .to-source4 .ensures)
-    (four-of (toSource (a .sx) (a .sy)) (record { 0 = nan; 1 = nan }) (a .t1) (search needs))
+    (four-of (toSource (a .sx) (a .sy)) (record { 0 = nan; 1 = nan }) (a .corners) (four-corners (first .before .before .before)))
 
 pub source-corners-spec : {M : Type 1} → statement M
 source-corners-spec =
