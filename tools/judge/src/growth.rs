@@ -24,7 +24,7 @@ fn relative(to: &[f64], times: &[f64]) -> f64 {
 fn with_samples(photographs: u64, repeats: u64) {
     let dims = [21, 33, 57, 177];
     let jobs = dims.map(|dim| (0..photographs).map(|seed| families::photograph(seed, 640, 480, dim, false)).collect::<Vec<_>>());
-    let mut groups: Vec<Turns> = jobs.iter().map(|j| Turns::new(j)).collect();
+    let mut groups: Vec<Turns> = jobs.iter().map(|j| Turns::new(j, Side::Rust)).collect();
     let times = seconds(&mut groups, &[0, 1, 2, 3].map(|k| (k, false)), repeats);
     println!("relative to dim 21, at 640 x 480:\n dim  samples   time  time/samples");
     for (k, dim) in dims.iter().enumerate() {
@@ -39,7 +39,7 @@ fn with_picture(photographs: u64, repeats: u64) {
     let sizes = [(640, 480), (1280, 960), (2560, 1920), (5120, 3840)];
     let first: Vec<Job> = (0..photographs).map(|seed| families::photograph_of(seed, 640, 480, 33, false, 120.0)).collect();
     let jobs = sizes.map(|(w, h)| first.iter().map(|job| families::framed(job, w, h)).collect::<Vec<_>>());
-    let mut groups: Vec<Turns> = jobs.iter().map(|j| Turns::new(j)).collect();
+    let mut groups: Vec<Turns> = jobs.iter().map(|j| Turns::new(j, Side::Rust)).collect();
     assert!(groups.iter().all(|g| g.samples == groups[0].samples), "the picture alone grows");
     let list: Vec<(usize, bool)> = (0..sizes.len()).flat_map(|k| [(k, false), (k, true)]).collect();
     let times = seconds(&mut groups, &list, repeats);

@@ -18,7 +18,8 @@ mod turns;
 const HELP: &str = "judge jobs [--seeds N] [--from SEED] [--family NAME] [--ways]
 judge job SEED [--family NAME]
 judge leaves [--calls N] [--from SEED]
-judge bench [--photographs N] [--repeats N] [--width N] [--dim N] [--lens yes|no] [--marking yes|no] [--side rust|port]
+judge bench [--before] [--photographs N] [--repeats N] [--width N] [--dim N] [--lens yes|no] [--marking yes|no]
+            [--side rust|port|before]
 judge growth [--photographs N] [--repeats N]
 judge cards LIST ANSWERS [--seeds N] [--of-each N] [--marks]
 judge card FILE";
@@ -26,6 +27,11 @@ judge card FILE";
 /// The value behind a word, if the word is there.
 fn value<'a>(words: &'a [String], name: &str) -> Option<&'a str> {
     words.iter().position(|w| w == name).map(|i| words.get(i + 1).map_or("", |w| w.as_str()))
+}
+
+/// Whether the word is there.
+fn said(words: &[String], name: &str) -> bool {
+    words.iter().any(|w| w == name)
 }
 
 fn number(words: &[String], name: &str, default: u64) -> u64 {
@@ -41,7 +47,7 @@ fn main() {
             first: number(&words, "--from", 0),
             count: number(&words, "--seeds", 2000),
             family,
-            ways: words.iter().any(|w| w == "--ways"),
+            ways: said(&words, "--ways"),
         }),
         Some("job") => compare::explain(words.get(1).and_then(|w| w.parse().ok()).expect("judge job SEED"), family),
         Some("leaves") => leaves::run(number(&words, "--from", 0), number(&words, "--calls", 1_000_000)),
@@ -52,6 +58,7 @@ fn main() {
         Some("bench") => bench::run(&bench::Options {
             photographs: number(&words, "--photographs", 4),
             repeats: number(&words, "--repeats", 25),
+            before: said(&words, "--before"),
             side: value(&words, "--side"),
             width: value(&words, "--width"),
             dim: value(&words, "--dim"),
@@ -62,7 +69,7 @@ fn main() {
         Some("cards") if words.len() > 2 => cards::run(&cards::Options {
             seeds: number(&words, "--seeds", 4000),
             of_each: number(&words, "--of-each", 2) as usize,
-            marks: words.iter().any(|w| w == "--marks"),
+            marks: said(&words, "--marks"),
             list: &words[1],
             answers: &words[2],
         }),

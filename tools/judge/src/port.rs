@@ -5,60 +5,84 @@ use crate::oracle::Outcome;
 #[path = "../../../bindings/trufolmesca.rs"]
 mod trufolmesca;
 
+/// The same bindings with the names of the archive before, as tools/judge/build writes them.
+#[cfg(before)]
+#[path = "../../../target/judge/before/trufolmesca.rs"]
+#[allow(dead_code)] // its leaf calls
+mod trufolmesca_before;
+// Without that archive nothing calls them.
+#[cfg(not(before))]
+use trufolmesca as trufolmesca_before;
+
 pub use trufolmesca::{Aim, Border, Photograph};
 
-fn camera(c: &Camera) -> trufolmesca::Camera {
-    trufolmesca::Camera { source: c.source, rectified: c.rectified, lens: c.lens }
+/// The refinement of a job through these bindings, where this archive is linked. Each archive's
+/// bindings have types of their own, so the text is a macro's.
+macro_rules! refinement {
+    ($bindings:ident, $archive:ident) => {
+        fn camera(c: &Camera) -> $bindings::Camera {
+            $bindings::Camera { source: c.source, rectified: c.rectified, lens: c.lens }
+        }
+
+        fn photograph(job: &Job) -> $bindings::Photograph<'_> {
+            $bindings::Photograph { bytes: &job.bytes, width: job.width, height: job.height, stride: job.stride }
+        }
+
+        fn grid(job: &Job) -> $bindings::Grid<'_> {
+            $bindings::Grid { modules: &job.modules, dim: job.dim }
+        }
+
+        fn answered(job: &Job) -> $bindings::Answer {
+            let (p, scale, camera) = (photograph(job), [job.sx, job.sy], job.camera.as_ref().map(camera));
+            $bindings::refine_corners(p, grid(job), scale, &job.corners, job.inverted, camera.as_ref())
+        }
+
+        fn answered_marking(job: &Job, sheet: &mut [u8], copy: &mut [u8]) -> $bindings::Answer {
+            let (p, scale, camera) = (photograph(job), [job.sx, job.sy], job.camera.as_ref().map(camera));
+            $bindings::refine_corners_marking(p, grid(job), scale, &job.corners, job.inverted, camera.as_ref(), sheet, copy)
+        }
+
+        fn outcome(a: &$bindings::Answer) -> Outcome {
+            Outcome {
+                number: a.number,
+                corners: a.corners,
+                counts: a.edges.map(|e| [e.probed, e.fit, e.dropped]),
+                valid: a.edges.map(|e| e.valid),
+                refined: a.refined,
+            }
+        }
+
+        /// The refinement call, with or without a camera.
+        pub fn refine(job: &Job) -> Option<Outcome> {
+            cfg!($archive).then(|| outcome(&answered(job)))
+        }
+
+        /// The marking call, which is lent sheet and copy.
+        pub fn refine_marking(job: &Job, sheet: &mut [u8], copy: &mut [u8]) -> Option<Outcome> {
+            cfg!($archive).then(|| outcome(&answered_marking(job, sheet, copy)))
+        }
+
+        /// The bare call, for timing.
+        #[inline(never)]
+        pub fn timed(job: &Job) -> Option<u32> {
+            cfg!($archive).then(|| std::hint::black_box(answered(job)).number)
+        }
+
+        /// The bare marking call, for timing.
+        #[inline(never)]
+        pub fn timed_marking(job: &Job, sheet: &mut [u8], copy: &mut [u8]) -> Option<u32> {
+            cfg!($archive).then(|| std::hint::black_box(answered_marking(job, sheet, copy)).number)
+        }
+    };
 }
 
-fn photograph(job: &Job) -> Photograph<'_> {
-    Photograph { bytes: &job.bytes, width: job.width, height: job.height, stride: job.stride }
-}
+refinement!(trufolmesca, port);
 
-fn grid(job: &Job) -> trufolmesca::Grid<'_> {
-    trufolmesca::Grid { modules: &job.modules, dim: job.dim }
-}
+/// The port as it was before, from an archive of its own.
+pub mod before {
+    use super::{trufolmesca_before, Camera, Job, Outcome};
 
-fn answered(job: &Job) -> trufolmesca::Answer {
-    let camera = job.camera.as_ref().map(camera);
-    trufolmesca::refine_corners(photograph(job), grid(job), [job.sx, job.sy], &job.corners, job.inverted, camera.as_ref())
-}
-
-fn answered_marking(job: &Job, sheet: &mut [u8], copy: &mut [u8]) -> trufolmesca::Answer {
-    let (p, scale, camera) = (photograph(job), [job.sx, job.sy], job.camera.as_ref().map(camera));
-    trufolmesca::refine_corners_marking(p, grid(job), scale, &job.corners, job.inverted, camera.as_ref(), sheet, copy)
-}
-
-fn outcome(a: &trufolmesca::Answer) -> Outcome {
-    Outcome {
-        number: a.number,
-        corners: a.corners,
-        counts: a.edges.map(|e| [e.probed, e.fit, e.dropped]),
-        valid: a.edges.map(|e| e.valid),
-        refined: a.refined,
-    }
-}
-
-/// The refinement call, with or without a camera.
-pub fn refine(job: &Job) -> Option<Outcome> {
-    cfg!(port).then(|| outcome(&answered(job)))
-}
-
-/// The marking call, which is lent sheet and copy.
-pub fn refine_marking(job: &Job, sheet: &mut [u8], copy: &mut [u8]) -> Option<Outcome> {
-    cfg!(port).then(|| outcome(&answered_marking(job, sheet, copy)))
-}
-
-/// The bare call, for timing.
-#[inline(never)]
-pub fn timed(job: &Job) -> Option<u32> {
-    cfg!(port).then(|| std::hint::black_box(answered(job)).number)
-}
-
-/// The bare marking call, for timing.
-#[inline(never)]
-pub fn timed_marking(job: &Job, sheet: &mut [u8], copy: &mut [u8]) -> Option<u32> {
-    cfg!(port).then(|| std::hint::black_box(answered_marking(job, sheet, copy)).number)
+    refinement!(trufolmesca_before, before);
 }
 
 /// A leaf call's number and values.
