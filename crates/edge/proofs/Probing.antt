@@ -1,5 +1,5 @@
 -- A probe, and the probes after it, as steps of the tree that is left; then the line through what they found. Assumes nothing.
-use mathlib.Core.Path.{_≡_, ap, _∙_}
+use mathlib.Core.Path.{_≡_, ap, _∙_, subst}
 use Prim.Native.Nat.{ℕ, _+_, _≤_, _<_}
 use native.Mathlib.Numerals.{add-one}
 use native.Mathlib.Omega.{arith}
@@ -18,7 +18,8 @@ use Rattle.profile.specs.declared.Located.{Located}
 use Rattle.grid.specs.declared.Probe.{Probe}
 use Rattle.edge.specs.declared.Plan.{Plan}
 use Rattle.edge.specs.declared.Side.{Side}
-use Rattle.edge.specs.Edge.{probed, plus, points, fitted}
+use Rattle.edge.specs.declared.Aim.{Aim}
+use Rattle.edge.specs.Edge.{aimed, sought, probed, plus, points, fitted}
 use Rattle.edge.specs.Store.{storedTo}
 use Rattle.edge.proofs.Stores.{stored-all}
 
@@ -40,13 +41,15 @@ module _ {S : Type 0} (ask : Sampler S) (plan : Plan) (side : Side) (ps : List P
   none-probed state = start ask whole state
 
   pub one-probed : (i : ℕ) (d : Probe) (got : List EdgePoint) {r : Located} {got′ : List EdgePoint} {state₀ state state′ : S} → i < n → n ≤ length ps
-      → Left state₀ i got state → Runs ask (probed plan side (getD ps i d)) r state state′ → got′ ≡ plus got r → Left state₀ (i + 1) got′ state′
-  unfolding points
-  one-probed i d got l h left ran hg =
+      → Left state₀ i got state
+      → {aim : Aim} → aim ≡ aimed plan side (getD ps i d) → Runs ask (sought (plan .settings) aim) r state state′ → got′ ≡ plus got r → Left state₀ (i + 1) got′ state′
+  unfolding points probed
+  one-probed i d got {r} {state = state} {state′ = state′} l h left is ran hg =
       rw hg
       (then ask
       (rw (next ps n i d l h) at left)
-      (called ask (probed plan side (getD ps i d)) (λ z. points plan side (drop (i + 1) (take n ps)) (plus got z)) ran))
+      (called ask (probed plan side (getD ps i d)) (λ z. points plan side (drop (i + 1) (take n ps)) (plus got z))
+      (subst (λ (z : Aim). Runs ask (sought (plan .settings) z) r state state′) is ran)))
 
   pub all-probed : (i : ℕ) (got : List EdgePoint) {state₀ state : S} → n ≤ i → Left state₀ i got state → Runs ask whole got state₀ state
   unfolding points

@@ -1,6 +1,6 @@
 -- refine.rs, one edge of a round: its probes, the points that they find, and the line through those. Definitions only.
 use Prim.Native.Nat.{ℕ}
-use mathlib.Core.Bool.{Bool, false}
+use mathlib.Core.Bool.{false}
 use mathlib.Core.List.{List, [], _∷_, _++_}
 use lib.ListN.{length}
 use lib.Ieee.{Float, binary64}
@@ -8,8 +8,8 @@ use Rattle.ieee.specs.Root.{root}
 use Rattle.ieee.specs.Floats.{if_then_else_, _⊕_, _⊖_, _⊗_, _⊘_, _≺_, float, f0, f1, f½, f1e-9}
 use Rattle.pixel.specs.Pixels.{source, direction}
 use Rattle.pixel.specs.declared.SourcePixel.{SourcePixel}
-use Rattle.pixel.specs.declared.Direction.{Direction}
 use Rattle.pixel.specs.declared.EdgePoint.{EdgePoint}
+use Rattle.consts.specs.declared.Settings.{Settings}
 use Rattle.homography.specs.Homography.{mapPoint}
 use Rattle.fit.specs.declared.EdgeFit.{EdgeFit}
 use Rattle.fit.specs.declared.EdgeFit.the-variants.{Weak}
@@ -23,6 +23,7 @@ use Rattle.grid.specs.Grids.{gridOf, bySide}
 use Rattle.grid.specs.Probes.{probesOf}
 use Rattle.edge.specs.declared.Plan.{Plan}
 use Rattle.edge.specs.declared.Side.{Side}
+use Rattle.edge.specs.declared.Aim.{Aim}
 
 -- ---- a probe's point
 
@@ -37,26 +38,33 @@ boundary e t = beside e f0 f1 t
 abbrev pub inward : ℕ → Float → Float → SourcePixel
 inward e invDim t = beside e invDim (f1 ⊖ invDim) t
 
--- outwards by `out`, whose length is the local module
-unfoldable pub aimed : Plan → Bool → SourcePixel → Direction → Look Located
-aimed p inwardDiffers coarse out =
-    let perpModule = root binary64 (out .x ⊗ out .x ⊕ out .y ⊗ out .y) in
-    if perpModule ≺ f1e-9 then done NoEdge else
-    localize (p .settings) (record {
-      coarse = coarse;
-      normal = direction (out .x ⊘ perpModule) (out .y ⊘ perpModule);
-      step = f½ ⊗ perpModule;
-      inverted = p .inverted;
-      «inward_differs» = inwardDiffers;
-    })
-
-unfoldable pub probed : Plan → Side → Probe → Look Located
-probed p side at =
+-- where a probe looks: outwards from the point one module further in, by steps of half that length, the local module
+unfoldable pub aimed : Plan → Side → Probe → Aim
+aimed p side at =
     let b = boundary (side .edge) (at .t) in
     let i = inward (side .edge) (f1 ⊘ float (p .dim)) (at .t) in
     let coarse = mapPoint (side .map) (b .0) (b .1) in
     let inner = mapPoint (side .map) (i .0) (i .1) in
-    aimed p (at .«inward_differs») coarse (direction (coarse .0 ⊖ inner .0) (coarse .1 ⊖ inner .1))
+    let ox = coarse .0 ⊖ inner .0 in
+    let oy = coarse .1 ⊖ inner .1 in
+    let perpModule = root binary64 (ox ⊗ ox ⊕ oy ⊗ oy) in
+    record {
+      «perp_module_px» = perpModule;
+      ray = record {
+        coarse = coarse;
+        normal = direction (ox ⊘ perpModule) (oy ⊘ perpModule);
+        step = f½ ⊗ perpModule;
+        inverted = p .inverted;
+        «inward_differs» = at .«inward_differs»;
+      };
+    }
+
+-- too short a module ends a probe unread
+unfoldable pub sought : Settings → Aim → Look Located
+sought s aim = if aim .«perp_module_px» ≺ f1e-9 then done NoEdge else localize s (aim .ray)
+
+unfoldable pub probed : Plan → Side → Probe → Look Located
+probed p side at = sought (p .settings) (aimed p side at)
 
 -- ---- the points
 
@@ -92,5 +100,5 @@ edge p modules side =
 
 -- all of the above, for a proof that computes with them: to unfold this is to unfold what its line names
 unfoldable pub opened : Unit {0}
-unfolding beside aimed probed plus points fitted edgeLength edge
+unfolding beside aimed sought probed plus points fitted edgeLength edge
 opened = tt

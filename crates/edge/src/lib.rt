@@ -7,7 +7,7 @@ ghost use Rattle.consts.specs.Consts.{room};
 ghost use Rattle.sampling.specs.Photographs.{photo};
 ghost use Rattle.look.specs.Run.{state, sampler, Runs};
 ghost use Rattle.grid.specs.Probes.{held};
-ghost use Rattle.edge.specs.Edge.{beside as besideOf, aimed, probed, points, fitted, edgeLength, edge as edgeOf};
+ghost use Rattle.edge.specs.Edge.{beside as besideOf, aimed, sought, points, fitted, edgeLength, edge as edgeOf};
 ghost use Rattle.edge.specs.Store.{storedTo, Adds, Room, Holds};
 use consts::ROOM;
 use consts::Settings;
@@ -59,6 +59,12 @@ pub struct Side {
     pub to: SourcePixel,
 }
 
+// Where a probe looks: the length of its local module, and the ray there.
+pub struct Aim {
+    pub perp_module_px: f64,
+    pub ray: Ray,
+}
+
 // A side with the probes that are to find its points.
 struct Search {
     task: Task,
@@ -81,86 +87,58 @@ fn beside(edge: u32, near: f64, far: f64, t: f64) -> SourcePixel
     }
 }
 
-// A probe at `coarse`, outwards by `out`: that length is the local module, and half of it the step.
-fn aim(
-    task: Task,
+// Where a probe looks. From the point one module further in to the boundary goes outwards; that length is the
+// local module, and half of it the step.
+fn aim_of(plan: Plan, side: Side, probe: Probe) -> Aim
+    ensures { λ r. ⌜ r ≡ aimed plan side probe ⌝ }
+{
+    let map = side.map;
+    let inv_dim = 1.0 / plan.dim as f64;
+    let b = beside(side.edge, 0.0, 1.0, probe.t);
+    let i = beside(side.edge, inv_dim, 1.0 - inv_dim, probe.t);
+    let coarse = map.map(b.0, b.1);
+    let inner = map.map(i.0, i.1);
+    let ox = coarse.0 - inner.0;
+    let oy = coarse.1 - inner.1;
+    let perp_module_px = ieee::sqrt(ox * ox + oy * oy);
+    Aim {
+        perp_module_px,
+        ray: Ray {
+            coarse,
+            normal: Direction {
+                x: ox / perp_module_px,
+                y: oy / perp_module_px,
+            },
+            step: 0.5 * perp_module_px,
+            inverted: plan.inverted,
+            inward_differs: probe.inward_differs,
+        },
+    }
+}
+
+// The point of a probe. Too short a module ends it unread.
+fn probe_edge(
+    settings: Settings,
     bytes: &[u8],
+    stride: u32,
+    scene: Scene,
     sheet: &mut [u8],
     copy: &mut [u8],
     meter: Meter,
-    inward_differs: bool,
-    coarse: SourcePixel,
-    out: Direction,
+    aim: Aim,
 ) -> Localized
-    ensures { λ r. ⌜ Runs (sampler (task .scene) (photo (now (bytes .entry)) (task .stride)))
-        (aimed (task .plan) «inward_differs» coarse out) (r .located)
+    ensures { λ r. ⌜ Runs (sampler scene (photo (now (bytes .entry)) stride)) (sought settings aim) (r .located)
         (state (now (sheet .entry)) (now (copy .entry)) meter)
         (state (now (sheet .exit)) (now (copy .exit)) (r .meter)) ⌝ }
 {
-    let perp_module_px = ieee::sqrt(out.x * out.x + out.y * out.y);
-    if perp_module_px < 1e-9 {
+    if aim.perp_module_px < 1e-9 {
         return Localized {
             located: Located::NoEdge,
             meter,
         };
     }
-    let ray = Ray {
-        coarse,
-        normal: Direction {
-            x: out.x / perp_module_px,
-            y: out.y / perp_module_px,
-        },
-        step: 0.5 * perp_module_px,
-        inverted: task.plan.inverted,
-        inward_differs,
-    };
-    profile::localize(
-        task.plan.settings,
-        bytes,
-        task.stride,
-        task.scene,
-        sheet,
-        copy,
-        meter,
-        ray,
-    )
-}
-
-// One probe: from the point one module further in to the boundary goes outwards.
-fn probe_edge(
-    task: Task,
-    bytes: &[u8],
-    sheet: &mut [u8],
-    copy: &mut [u8],
-    meter: Meter,
-    side: Side,
-    probe: Probe,
-) -> Localized
-    ensures { λ r. ⌜ Runs (sampler (task .scene) (photo (now (bytes .entry)) (task .stride)))
-        (probed (task .plan) side probe) (r .located)
-        (state (now (sheet .entry)) (now (copy .entry)) meter)
-        (state (now (sheet .exit)) (now (copy .exit)) (r .meter)) ⌝ }
-{
-    let map = side.map;
-    let inv_dim = 1.0 / task.plan.dim as f64;
-    let b = beside(side.edge, 0.0, 1.0, probe.t);
-    let i = beside(side.edge, inv_dim, 1.0 - inv_dim, probe.t);
-    let coarse = map.map(b.0, b.1);
-    let inner = map.map(i.0, i.1);
-    let out = Direction {
-        x: coarse.0 - inner.0,
-        y: coarse.1 - inner.1,
-    };
-    aim(
-        task,
-        bytes,
-        sheet,
-        copy,
-        meter,
-        probe.inward_differs,
-        coarse,
-        out,
-    )
+    let ray = aim.ray;
+    profile::localize(settings, bytes, stride, scene, sheet, copy, meter, ray)
 }
 
 // ---- the points
@@ -182,7 +160,8 @@ fn put(located: Located, xs: &mut [f64], ys: &mut [f64], weights: &mut [f64], n:
     }
 }
 
-// The points that an edge's probes find, into the three slices.
+// The points that an edge's probes find, into the three slices. What all probes share is taken out of the search
+// once: a probe that took it out again cost a hundredth of a run.
 fn find_points(
     search: Search,
     bytes: &[u8],
@@ -201,7 +180,9 @@ fn find_points(
         (state (now (sheet .entry)) (now (copy .entry)) meter)
         (state (now (sheet .exit)) (now (copy .exit)) (r .meter)) ⌝ }
 {
-    let task = search.task;
+    let scene = search.task.scene;
+    let plan = search.task.plan;
+    let settings = plan.settings;
     let side = search.side;
     let probes = search.probes;
     let n = probes.count;
@@ -209,7 +190,17 @@ fn find_points(
     let mut found = Found { count: 0, meter };
     let mut i: usize = 0;
     while i < n {
-        let run = probe_edge(task, bytes, sheet, copy, found.meter, side, list[i]);
+        let aim = aim_of(plan, side, list[i]);
+        let run = probe_edge(
+            settings,
+            bytes,
+            search.task.stride,
+            scene,
+            sheet,
+            copy,
+            found.meter,
+            aim,
+        );
         let located = run.located;
         let count = put(located, xs, ys, weights, found.count);
         let meter = run.meter;

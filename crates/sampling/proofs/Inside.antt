@@ -8,11 +8,12 @@ use mathlib.Core.Bool.{Bool, true, false, not, _&&_, _||_, true≢false}
 use lib.IntN.{ℤ}
 use lib.Dec.{leb}
 use borrow.Author.Tests.{ltb-false, leb-true, not-false}
-use lib.Ieee.{Float, nan, inf, fin, up, down, lt, toUnsigned}
+use lib.Ieee.{Float, nan, inf, fin, up, down, lt, ofBits, toUnsigned}
 use lib.Ieee.Exact.{HasValue}
 use lib.Ieee.Fits.{down-pos}
 use Rattle.ieee.specs.Parts.{isFinite}
-use Rattle.ieee.proofs.WholeGuess.{float-value}
+use Rattle.ieee.proofs.Order.{not-itself}
+use Rattle.ieee.proofs.WholeGuess.{float-value, float-finite}
 use Rattle.ieee.specs.Floats.{if_then_else_, _≺_, f0, float, wholePart}
 use Rattle.pixel.specs.declared.SourcePixel.{SourcePixel}
 use Rattle.camera.specs.declared.Placed.{Placed}
@@ -20,13 +21,14 @@ use Rattle.camera.specs.declared.Placed.the-variants.{On, Nowhere}
 use Rattle.camera.specs.Camera.{rectifiedToSource}
 use Rattle.camera.proofs.Tests.{both}
 use Rattle.sampling.specs.Photographs.{sized, goodSize, goodPhotograph}
-use Rattle.sampling.specs.declared.BorderMode.the-variants.{Reject}
+use Rattle.sampling.specs.declared.BorderMode.{BorderMode}
+use Rattle.sampling.specs.declared.BorderMode.the-variants.{Reject, Clamp, Constant}
 use Rattle.sampling.specs.declared.Spot.the-variants.{Off, Edging, Among}
 use Rattle.sampling.specs.declared.Spot.{Spot}
 use Rattle.sampling.specs.declared.View.{View}
 use Rattle.sampling.specs.declared.View.the-variants.{Plain, Calibrated}
 use Rattle.sampling.specs.declared.Scene.{Scene}
-use Rattle.sampling.specs.Sampling.{within, outside, beyond, spot, touched, Ordered, placedSpot, viewedSpot, sceneSpot}
+use Rattle.sampling.specs.Sampling.{within, clamped, outside, beyond, spot, touched, Ordered, placedSpot, viewedSpot, sceneSpot}
 use Rattle.sampling.proofs.Pixels.{Each, Inside}
 
 -- ---- the whole part of a value that is not above n
@@ -53,6 +55,16 @@ whole-part-le n (fin false m e) h f l = capped (m * up e / down e) (2 ^ 32 - 1) 
   where
     capped : (a b c : ℕ) → a ≤ c → min a b ≤ c
     capped a b c k = omega arith
+
+-- and so of one that is clamped there
+clamped-le : (n : ℕ) (x : Float) → n < 2 ^ 53 → isFinite x ≡ true → wholePart (clamped x (float n)) ≤ n
+unfolding clamped toUnsigned ofBits
+clamped-le n x h f = go (x ≺ f0) (float n ≺ x) refl
+  where
+    go : (a b : Bool) → (float n ≺ x) ≡ b → wholePart (if a then f0 else if b then float n else x) ≤ n
+    go true b e = zero-le
+    go false true e = whole-part-le n (float n) h (float-finite n h) (not-itself (float n))
+    go false false e = whole-part-le n x h f e
 
 -- ---- a spot
 
@@ -103,29 +115,44 @@ Cut w h (Edging v) = Unit {0}
 Cut w h (Among x0 y0 x1 y1 fx fy) = (x0 ≤ x1) × (y0 ≤ y1) × (x1 ≤ w - 1) × (y1 ≤ h - 1)
 
 module _ (w h : ℕ) (wide : w < 2 ^ 32) (high : h < 2 ^ 32) where
-  pub spot-cut : (x y : Float) → Cut w h (spot w h Reject x y)
-  unfolding Cut spot beyond within outside
-  spot-cut x y = go (not (isFinite x) || not (isFinite y)) refl (outside w h x y) refl
+  within-cut : (x y : Float) → wholePart x ≤ w - 1 → wholePart y ≤ h - 1 → Cut w h (within w h x y)
+  unfolding Cut within
+  within-cut x y bx by = (omega arith, omega arith, omega arith, omega arith)
+
+  beyond-cut : (b : BorderMode) (x y : Float) → isFinite x ≡ true → isFinite y ≡ true → Cut w h (beyond w h b x y)
+  unfolding Cut beyond
+  beyond-cut Reject x y fx fy = tt
+  beyond-cut Clamp x y fx fy =
+      within-cut (clamped x (float (w - 1))) (clamped y (float (h - 1))) (clamped-le (w - 1) x (omega arith) fx) (clamped-le (h - 1) y (omega arith) fy)
+  beyond-cut (Constant v) x y fx fy = tt
+
+  pub spot-cut : (b : BorderMode) (x y : Float) → Cut w h (spot w h b x y)
+  unfolding Cut spot outside
+  spot-cut b x y = go (not (isFinite x) || not (isFinite y)) refl (outside w h x y) refl
     where
-      go : (a : Bool) → (not (isFinite x) || not (isFinite y)) ≡ a → (b : Bool) → outside w h x y ≡ b
-          → Cut w h (if a then Off else if b then beyond w h Reject x y else within w h x y)
-      go true ea b eb = tt
-      go false ea true eb = tt
-      go false ea false eb =
-          let bx : wholePart x ≤ w - 1 = whole-part-le (w - 1) x (omega arith) (not-false (isFinite x) (or-left (not (isFinite x)) (not (isFinite y)) ea))
-          (or-right ((x ≺ f0) || (y ≺ f0)) (float (w - 1) ≺ x) (or-left ((x ≺ f0) || (y ≺ f0) || (float (w - 1) ≺ x)) (float (h - 1) ≺ y) eb)) in
-          let by : wholePart y ≤ h - 1 = whole-part-le (h - 1) y (omega arith) (not-false (isFinite y) (or-right (not (isFinite x)) (not (isFinite y)) ea))
-          (or-right ((x ≺ f0) || (y ≺ f0) || (float (w - 1) ≺ x)) (float (h - 1) ≺ y) eb) in
-          (omega arith, omega arith, omega arith, omega arith)
+      go : (a : Bool) → (not (isFinite x) || not (isFinite y)) ≡ a → (o : Bool) → outside w h x y ≡ o
+          → Cut w h (if a then Off else if o then beyond w h b x y else within w h x y)
+      go true ea o eo = tt
+      go false ea o eo =
+          let fx : isFinite x ≡ true = not-false (isFinite x) (or-left (not (isFinite x)) (not (isFinite y)) ea) in
+          let fy : isFinite y ≡ true = not-false (isFinite y) (or-right (not (isFinite x)) (not (isFinite y)) ea) in
+          by-side fx fy o eo
+        where
+          by-side : isFinite x ≡ true → isFinite y ≡ true → (o : Bool) → outside w h x y ≡ o → Cut w h (if o then beyond w h b x y else within w h x y)
+          by-side fx fy true eo = beyond-cut b x y fx fy
+          by-side fx fy false eo =
+              let left = or-left ((x ≺ f0) || (y ≺ f0) || (float (w - 1) ≺ x)) (float (h - 1) ≺ y) eo in
+              within-cut x y (whole-part-le (w - 1) x (omega arith) fx (or-right ((x ≺ f0) || (y ≺ f0)) (float (w - 1) ≺ x) left))
+              (whole-part-le (h - 1) y (omega arith) fy (or-right ((x ≺ f0) || (y ≺ f0) || (float (w - 1) ≺ x)) (float (h - 1) ≺ y) eo))
 
   placed-cut : (r : Placed) → Cut w h (placedSpot w h r)
   unfolding placedSpot Cut
-  placed-cut (On q) = spot-cut (q .0) (q .1)
+  placed-cut (On q) = spot-cut Reject (q .0) (q .1)
   placed-cut Nowhere = tt
 
   pub viewed-cut : (v : View) (q : SourcePixel) → Cut w h (viewedSpot w h v q)
   unfolding viewedSpot
-  viewed-cut Plain q = spot-cut (q .0) (q .1)
+  viewed-cut Plain q = spot-cut Reject (q .0) (q .1)
   viewed-cut (Calibrated c) q = placed-cut (rectifiedToSource c q)
 
 pub cut-ordered : (w h : ℕ) (at : Spot) → Cut w h at → Ordered at
@@ -148,6 +175,10 @@ cut-inside w h size (Among x0 y0 x1 y1 fx fy) c = (
     ),
   ),
 )
+
+-- of a sample under any border mode, and of one of the refinement
+pub spot-ordered : (w h : ℕ) → w < 2 ^ 32 → h < 2 ^ 32 → (b : BorderMode) (x y : Float) → Ordered (spot w h b x y)
+spot-ordered w h wide high b x y = cut-ordered w h (spot w h b x y) (spot-cut w h wide high b x y)
 
 module _ (e : Scene) where
   pub scene-ordered : e .width < 2 ^ 32 → e .height < 2 ^ 32 → (q : SourcePixel) → Ordered (sceneSpot e q)

@@ -239,10 +239,32 @@ fn pixel_at(bytes: &[u8], stride: u32, x: u32, y: u32) -> u8
     byte_at(bytes, place(stride, x, y))
 }
 
-// The four pixels that a sample falls among.
-fn cell_at(bytes: &[u8], stride: u32, x0: u32, y0: u32, x1: u32, y1: u32) -> Cell
+// The four pixels that a sample falls among, where the photograph reaches the last of them.
+fn read_cell(bytes: &[u8], stride: u32, x0: u32, y0: u32, x1: u32, y1: u32) -> Cell
+    requires { ⌜ (x0 ≤ x1) × (y0 ≤ y1) × (y1 * stride + x1 < length (now bytes)) ⌝ }
     ensures { λ r. ⌜ r ≡ cellOf (photo (now (bytes .entry)) stride) x0 y0 x1 y1 ⌝ }
 {
+    let i00 = place(stride, x0, y0);
+    let i10 = place(stride, x1, y0);
+    let i01 = place(stride, x0, y1);
+    let i11 = place(stride, x1, y1);
+    Cell {
+        v00: bytes[i00],
+        v10: bytes[i10],
+        v01: bytes[i01],
+        v11: bytes[i11],
+    }
+}
+
+// The four pixels that a sample falls among. One test does for all where the photograph is whole, as it is behind
+// entry check 2.
+fn cell_at(bytes: &[u8], stride: u32, x0: u32, y0: u32, x1: u32, y1: u32) -> Cell
+    requires { ⌜ (x0 ≤ x1) × (y0 ≤ y1) ⌝ }
+    ensures { λ r. ⌜ r ≡ cellOf (photo (now (bytes .entry)) stride) x0 y0 x1 y1 ⌝ }
+{
+    if place(stride, x1, y1) < bytes.len() {
+        return read_cell(bytes, stride, x0, y0, x1, y1);
+    }
     Cell {
         v00: pixel_at(bytes, stride, x0, y0),
         v10: pixel_at(bytes, stride, x1, y0),
@@ -280,7 +302,7 @@ fn write_cell(buffer: &mut [u8], width: u32, x0: u32, y0: u32, x1: u32, y1: u32,
 }
 
 // Four pixels are marked on the sheet, and copied, where both reach the last of them. Most runs want
-// neither, and lend two empty slices.
+// neither and lend two empty slices, so that is asked first.
 fn mark_cell(
     sheet: &mut [u8],
     copy: &mut [u8],
@@ -295,6 +317,9 @@ fn mark_cell(
     ensures { λ _. ⌜ buffers (now (sheet .exit)) (now (copy .exit))
         ≡ cellMarked width x0 y0 x1 y1 cell (buffers (now (sheet .entry)) (now (copy .entry))) ⌝ }
 {
+    if sheet.len() == 0 {
+        return;
+    }
     let last = place(width, x1, y1);
     if last >= sheet.len() {
         return;
@@ -346,6 +371,7 @@ fn show(
 
 // The same, and nothing is marked.
 fn shade_at(bytes: &[u8], stride: u32, spot: Spot) -> Sampled
+    requires { ⌜ Ordered spot ⌝ }
     ensures { λ r. ⌜ r ≡ shade (photo (now (bytes .entry)) stride) spot ⌝ }
 {
     match spot {

@@ -14,33 +14,36 @@ use Rattle.edge.proofs.find_points.Statement.{statement}
 use Rattle.edge.proofs.find_points.Tie as tie
 
 abbrev Inv-loop : tie.InvT-loop
-Inv-loop bytes sheet₀ copy₀ xs₀ ys₀ weights₀ task side n list found₀ i₀ sheet copy xs ys weights found i =
+Inv-loop search bytes sheet₀ copy₀ xs₀ ys₀ weights₀ scene plan settings side n list found₀ i₀ sheet copy xs ys weights found i =
     (i ≤ n) × (found .count ≤ i) × (length xs ≡ length xs₀) × (length ys ≡ length ys₀) × (length weights ≡ length weights₀)
-    × Left (sampler (task .scene) (photo bytes (task .stride))) (task .plan) side list n (state sheet₀ copy₀ (found₀ .meter)) i
+    × Left (sampler scene (photo bytes (search .task .stride))) plan side list n (state sheet₀ copy₀ (found₀ .meter)) i
     (storedTo (found .count) xs ys weights) (state sheet copy (found .meter))
 
 abbrev μ-loop : tie.MeasureT-loop
-μ-loop bytes sheet₀ copy₀ xs₀ ys₀ weights₀ task side n list found₀ i₀ sheet copy xs ys weights found i =
+μ-loop search bytes sheet₀ copy₀ xs₀ ys₀ weights₀ scene plan settings side n list found₀ i₀ sheet copy xs ys weights found i =
     n - i
 
 loop-holds : tie.Need-loop-holds Inv-loop μ-loop
 unfolding pointsOf
-loop-holds c = let a = c .before .before .before .before .before .before .before .before .before .before .args in
+loop-holds c = let a = c .before .before .before .before .before .before .before .before .before .before .before .before .args in
     (omega arith, omega arith, refl, refl, refl, none-probed _ _ _ (a .search .probes .probes) (a .search .probes .count) _)
 
-mul-probe-edge : tie.Need-mul-probe-edge Inv-loop μ-loop
-mul-probe-edge c = search needs
+mul-aim-of : tie.Need-mul-aim-of Inv-loop μ-loop
+mul-aim-of c = search needs
 
-array-copy-out-probe-edge : tie.Need-array-copy-out-probe-edge Inv-loop μ-loop
-array-copy-out-probe-edge c = search needs
+array-copy-out-aim-of : tie.Need-array-copy-out-aim-of Inv-loop μ-loop
+array-copy-out-aim-of c = search needs
+
+aim-of-requires : tie.Need-aim-of-requires Inv-loop μ-loop
+aim-of-requires c κs = search needs
 
 probe-edge-requires : tie.Need-probe-edge-requires Inv-loop μ-loop
 probe-edge-requires c κs = search needs
 
 put-requires : tie.Need-put-requires Inv-loop μ-loop
-put-requires c κs = let test = c .before .before .before .before .before .before .before .before .before .before .before in
+put-requires c κs = let test = c .before .before .before .before .before .before .before .before .before .before .before .before in
     let at = test .before in
-    let pre = at .before .before .before .before .before .before .before .before .before .before .before .pre in
+    let pre = at .before .before .before .before .before .before .before .before .before .before .before .before .before .pre in
     record {
       in-xs = omega (arith, test .loop-test .taken, at .loop .inv .1, at .loop .inv .2, pre .few, pre .xs-too);
       in-ys = omega (arith, test .loop-test .taken, at .loop .inv .1, at .loop .inv .3, pre .few, pre .ys-too);
@@ -48,7 +51,8 @@ put-requires c κs = let test = c .before .before .before .before .before .befor
     }
 
 add-i : tie.Need-add-i Inv-loop μ-loop
-add-i c = search needs
+add-i c = let test = c .before .before .before .before .before .before .before .before .before .before .before .before .before .before .before .before .before .before .before .before in
+    omega (arith, test .loop-test .taken, test .before .before .before .before .before .before .before .before .before .before .before .before .before .before .pre .few)
 
 loop-less : tie.Need-loop-less Inv-loop μ-loop
 loop-less c = search needs
@@ -56,15 +60,15 @@ loop-less c = search needs
 loop-again : tie.Need-loop-again Inv-loop μ-loop
 loop-again c = let stored = c .before .before .before .before .before .before .before in
     let ran = stored .before .before .before .before .before .before .before .before in
-    let test = ran .before .before .before .before in
+    let test = ran .before .before .before .before .before in
     let at = test .before in
-    let pre = at .before .before .before .before .before .before .before .before .before .before .before .pre in (
+    let pre = at .before .before .before .before .before .before .before .before .before .before .before .before .before .pre in (
       omega (arith, test .loop-test .taken),
       omega (arith, at .loop .inv .1, stored .put .ensures .one),
       stored .put .kept .1 .0 ∙ at .loop .inv .2,
       stored .put .kept .1 .1 .0 ∙ at .loop .inv .3,
       stored .put .kept .1 .1 .1 .0 ∙ at .loop .inv .4,
-      one-probed _ _ _ _ _ _ _ _ (test .loop-test .taken) (omega (arith, pre .few, pre .whole)) (at .loop .inv .5) (ran .probe-edge .ensures) (stored .put .ensures .points),
+      one-probed _ _ _ _ _ _ _ _ (test .loop-test .taken) (omega (arith, pre .few, pre .whole)) (at .loop .inv .5) (ran .before .before .before .aim-of .ensures) (ran .probe-edge .ensures) (stored .put .ensures .points),
     )
 
 returns : tie.Need-returns Inv-loop μ-loop
@@ -93,8 +97,9 @@ find-points-spec =
     Inv-loop
     μ-loop
     loop-holds
-    mul-probe-edge
-    array-copy-out-probe-edge
+    mul-aim-of
+    array-copy-out-aim-of
+    aim-of-requires
     probe-edge-requires
     put-requires
     add-i

@@ -1,6 +1,10 @@
 -- `sample_bilinear` meets its contract: the photograph's number, and then a case for each answer of `shade_at`. Assumes nothing.
 use Rattle.sampling.proofs.Answers.{refused, shown}
-use Rattle.sampling.specs.Sampling.{lumaAnswer}
+use Rattle.sampling.proofs.Inside.{spot-ordered}
+use Rattle.sampling.specs.declared.Spot.{Spot}
+use native.Mathlib.Omega.{arith}
+use mathlib.Core.Path.{sym, subst}
+use Rattle.sampling.specs.Sampling.{Ordered, lumaAnswer}
 use borrow.Author.Needs.{needs}
 use Rattle.sampling.proofs.sample_bilinear.Statement.{statement}
 use Rattle.sampling.proofs.sample_bilinear.Tie as tie
@@ -15,7 +19,7 @@ spot-at-requires : tie.Need-spot-at-requires
 spot-at-requires c κs = search needs
 
 shade-at-requires : tie.Need-shade-at-requires
-shade-at-requires c κs = search needs
+shade-at-requires c κs = subst (λ (z : Spot). Ordered z) (sym (c .spot-at .ensures)) (spot-ordered _ _ (omega arith) (omega arith) _ _ _)
 
 enum-known-sampled : tie.Need-enum-known-sampled
 enum-known-sampled c = search needs

@@ -1,8 +1,8 @@
 -- `shade_at` meets its contract: a case for each spot. Assumes nothing.
 use Rattle.sampling.proofs.Shades.{shade-among}
-use Rattle.sampling.specs.Sampling.{shade}
+use Rattle.sampling.specs.Sampling.{shade, Ordered}
 use Rattle.sampling.specs.declared.Spot.{Spot}
-use mathlib.Core.Path.{sym, ap}
+use mathlib.Core.Path.{subst}
 use borrow.Author.Needs.{needs}
 use Rattle.sampling.proofs.shade_at.Statement.{statement}
 use Rattle.sampling.proofs.shade_at.Tie as tie
@@ -20,7 +20,8 @@ enum-known-spot-2 : tie.Need-enum-known-spot-2
 enum-known-spot-2 c = search needs
 
 cell-at-requires : tie.Need-cell-at-requires
-cell-at-requires c κs = search needs
+unfolding Ordered
+cell-at-requires c κs = subst (λ (z : Spot). Ordered z) (c .before .spot2 .given .1) (c .before .before .before .before .pre)
 
 blended-requires : tie.Need-blended-requires
 blended-requires c κs = search needs

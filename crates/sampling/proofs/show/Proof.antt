@@ -20,7 +20,8 @@ enum-known-spot-2 : tie.Need-enum-known-spot-2
 enum-known-spot-2 c = search needs
 
 cell-at-requires : tie.Need-cell-at-requires
-cell-at-requires c κs = search needs
+unfolding Ordered
+cell-at-requires c κs = subst (λ (z : Spot). Ordered z) (c .before .spot2 .given .1) (c .before .before .before .before .before .before .pre)
 
 mark-cell-requires : tie.Need-mark-cell-requires
 unfolding Ordered
