@@ -1,4 +1,4 @@
--- The whole part of a float as a `u32`, by what the two comparisons of `whole_part` say. Assumes nothing.
+-- The whole part of a float as a `u32`, by what the two comparisons of `split_whole` say. Assumes nothing.
 use mathlib.Core.Path.{_≡_, refl, sym, ap, subst}
 use Prim.Native.Nat.{ℕ, zero, suc, zero-le, _+_, _-_, _*_, _/_, _^_, _≤_, _<_, min}
 use native.Mathlib.Nat.{div-le-of-le-mul, le-div-iff-mul-le, mul-comm, le-of-lt}

@@ -1,4 +1,4 @@
--- A whole number w that is at most x, while x less w is below 1, is x without its fraction: the test by which `whole_part` takes a guess. The difference is rounded, but rounding keeps the order, so that of 1 or more it
+-- A whole number w that is at most x, while x less w is below 1, is x without its fraction: the test by which `split_whole` takes a guess. The difference is rounded, but rounding keeps the order, so that of 1 or more it
 -- stays 1 or more. Assumes nothing.
 use mathlib.Core.Path.{_≡_, refl, sym, ap, _∙_, subst}
 use Prim.Native.Nat.{ℕ, _+_, _-_, _*_, _/_, _^_, _≤_, _<_, min}
@@ -14,7 +14,8 @@ use lib.Ieee.Order.{round-mono}
 use lib.Ieee.Fits.{down-pos}
 use borrow.Author.Tests.{ltb-true, ltb-false, le-ltb}
 use Rattle.ieee.specs.Floats.{_⊖_, _≺_, _≼_, f1, float}
-use Rattle.ieee.specs.Parts.{isFinite}
+use Rattle.ieee.specs.Parts.{isFinite, splitWhole}
+use Rattle.ieee.specs.declared.Split.{Split}
 use Rattle.ieee.proofs.Order.{at-most, gone, zeros, not-more}
 
 -- a whole number below 2 to the 53 is a float of that value
@@ -103,3 +104,10 @@ held w (fin false k d) (fin false m e) small v h g =
 
 pub accepted : (w : ℕ) (x : Float) → w < 2 ^ 32 → (float w ≼ x) ≡ true → ((x ⊖ float w) ≺ f1) ≡ true → w ≡ toUnsigned 32 x
 accepted w x small h g = held w (float w) x small (float-value w (omega (arith, small))) h g
+
+-- x split at a whole number that is its whole part
+pub split-at : {w : ℕ} (x : Float) → w ≡ toUnsigned 32 x → record { whole = w; left = x ⊖ float w } ≡ splitWhole x
+split-at x h = ap at h
+  where
+    at : ℕ → Split
+    at k = record { whole = k; left = x ⊖ float k }

@@ -3,7 +3,8 @@
 use Prim.Native.Nat.{ℕ, _+_, _-_, _*_, _/_}
 use mathlib.Core.Bool.{Bool, true, false, cond}
 use lib.Ieee.{Float, nan, inf, fin, binary64, up, down, round, isNan}
-use Rattle.ieee.specs.Floats.{if_then_else_, _≺_}
+use Rattle.ieee.specs.Floats.{if_then_else_, _⊖_, _≺_, float, wholePart}
+use Rattle.ieee.specs.declared.Split.{Split}
 
 -- x without its sign
 unfoldable pub magnitude : Float → Float
@@ -46,6 +47,10 @@ larger a b =
     if isNan b then a else
     if a ≺ b then b else
     a
+
+-- x's whole part, and what is left of x
+abbrev pub splitWhole : Float → Split
+splitWhole x = record { whole = wholePart x; left = x ⊖ float (wholePart x) }
 
 -- all of the above, for a proof that computes with them: to unfold this is to unfold what its line names
 unfoldable pub opened : Unit {0}

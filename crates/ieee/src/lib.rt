@@ -6,8 +6,14 @@ ghost use mathlib.Core.Path.{_≡_};
 ghost use mathlib.Core.Bool.{true};
 ghost use lib.Ieee.{binary64, toBits, ofBits, toUnsigned};
 ghost use Rattle.ieee.specs.Floats.{f0, _≼_};
-ghost use Rattle.ieee.specs.Parts.{magnitude, isFinite, floorOf, ceilOf, larger};
+ghost use Rattle.ieee.specs.Parts.{magnitude, isFinite, floorOf, ceilOf, larger, splitWhole};
 ghost use Rattle.ieee.specs.Root.{root};
+
+// A value's whole part, and what is left of it: its fraction, where the value is in the range of the whole part.
+pub struct Split {
+    pub whole: u32,
+    pub left: f64,
+}
 
 // x's bit pattern. Every NaN has the pattern 0x7ff8000000000000.
 pub fn bits_of(x: f64) -> u64
@@ -110,21 +116,37 @@ fn whole_digits(x: f64) -> u32
     std::num::truncating_f64_to_u64(x) as u32
 }
 
+// x's whole part and what is left of x. The test of the guess has worked out what is left already.
+pub fn split_whole(x: f64) -> Split
+    ensures { λ r. ⌜ r ≡ splitWhole x ⌝ }
+{
+    if x >= 0.0 {
+        let guess = whole_guess(x);
+        let left = x - guess as f64;
+        if guess as f64 <= x {
+            if left < 1.0 {
+                return Split { whole: guess, left };
+            }
+        }
+        let whole = whole_digits(x);
+        return Split {
+            whole,
+            left: x - whole as f64,
+        };
+    }
+    let none: u32 = 0;
+    Split {
+        whole: none,
+        left: x - none as f64,
+    }
+}
+
 // x without its fraction: Rust's `x as u32`. Beyond either end of the range it is that end, and 0
 // for a NaN.
 pub fn whole_part(x: f64) -> u32
     ensures { λ r. ⌜ r ≡ toUnsigned 32 x ⌝ }
 {
-    if x >= 0.0 {
-        let w = whole_guess(x);
-        if w as f64 <= x {
-            if x - (w as f64) < 1.0 {
-                return w;
-            }
-        }
-        return whole_digits(x);
-    }
-    0
+    split_whole(x).whole
 }
 
 // The square root of x.

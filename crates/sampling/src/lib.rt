@@ -122,15 +122,15 @@ fn clamp(x: f64, most: f64) -> f64
 fn within(width: u32, height: u32, x: f64, y: f64) -> Spot
     ensures { λ r. ⌜ r ≡ amid width height x y ⌝ }
 {
-    let x0 = ieee::whole_part(x);
-    let y0 = ieee::whole_part(y);
+    let across = ieee::split_whole(x);
+    let down = ieee::split_whole(y);
     Spot::Among {
-        x0,
-        y0,
-        x1: next(x0, width),
-        y1: next(y0, height),
-        fx: x - x0 as f64,
-        fy: y - y0 as f64,
+        x0: across.whole,
+        y0: down.whole,
+        x1: next(across.whole, width),
+        y1: next(down.whole, height),
+        fx: across.left,
+        fy: down.left,
     }
 }
 
