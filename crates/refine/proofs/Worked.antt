@@ -20,6 +20,7 @@ use Rattle.profile.specs.Profile as Profile
 use Rattle.grid.specs.Grids as Grids
 use Rattle.grid.specs.Probes as Probes
 use Rattle.edge.specs.Edge as Edge
+use Rattle.corners.specs.Corners as Corners
 use Rattle.rounds.specs.Rounds as Rounds
 use Rattle.refine.specs.Refine as Refine
 use Rattle.ieee.specs.Floats.{_⊘_, f0, f1, f2, f3, f½, float}
@@ -179,5 +180,5 @@ grey-photograph = record { bytes = replicate 16 128; stride = 4 }
 pub grey-is-thin : T (eqb (refine grey (1 ∷ 1 ∷ 1 ∷ 1 ∷ []) grey-photograph .number) 9)
 unfolding grey grey-photograph at
     Floats.opened Parts.opened Root.opened Pixels.opened Photographs.opened Sampling.opened Look.opened Homography.opened Line.opened Fit.opened
-    Profile.opened Grids.opened Probes.opened Edge.opened Rounds.opened Refine.opened
+    Profile.opened Grids.opened Probes.opened Edge.opened Corners.opened Rounds.opened Refine.opened
 grey-is-thin = tt
