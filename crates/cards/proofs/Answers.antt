@@ -36,8 +36,8 @@ use Rattle.fit.specs.declared.EdgeFit.the-variants.{Stops, Weak, Lined}
 use Rattle.fit.specs.Fit.{stat, kept, lined, refit, trimmed, firstFit, fitEdge, residuals, threshold, fitPoints}
 use Rattle.fit.proofs.Keeping.{kept-fewer}
 use Rattle.look.proofs.Always.{Always, ends, always-value, always-bind, always-after, always-weaker}
-use Rattle.profile.specs.declared.Located.{Located}
-use Rattle.profile.specs.declared.Located.the-variants.{Found, NoEdge}
+use Rattle.peak.specs.declared.Located.{Located}
+use Rattle.peak.specs.declared.Located.the-variants.{Found, NoEdge}
 use Rattle.grid.specs.declared.Probe.{Probe}
 use Rattle.grid.specs.Grids.{Grid, gridOf}
 use Rattle.grid.specs.Probes.{probesOf, thinned}

@@ -15,8 +15,8 @@ use Rattle.fit.specs.declared.EdgeFit.{EdgeFit}
 use Rattle.fit.specs.declared.EdgeFit.the-variants.{Weak}
 use Rattle.fit.specs.Fit.{stat, fitEdge}
 use Rattle.look.specs.Look.{Look, done, _>>=_}
-use Rattle.profile.specs.declared.Located.{Located}
-use Rattle.profile.specs.declared.Located.the-variants.{Found, NoEdge}
+use Rattle.peak.specs.declared.Located.{Located}
+use Rattle.peak.specs.declared.Located.the-variants.{Found, NoEdge}
 use Rattle.profile.specs.Profile.{localize}
 use Rattle.grid.specs.declared.Probe.{Probe}
 use Rattle.grid.specs.Grids.{gridOf, bySide}

@@ -17,10 +17,10 @@ use grid::Probe;
 use grid::Probes;
 use homography::PerspectiveTransform;
 use look::Meter;
+use peak::Located;
 use pixel::Direction;
 use pixel::SourcePixel;
 use profile::Localized;
-use profile::Located;
 use profile::Ray;
 use sampling::Scene;
 

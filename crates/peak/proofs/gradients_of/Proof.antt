@@ -1,9 +1,9 @@
 -- `gradients_of` meets its contract: the definition's own operations in the same order. Assumes nothing.
 use mathlib.Core.Path.{refl}
-use Rattle.profile.specs.Profile.{gradient, five}
+use Rattle.peak.specs.Peak.{gradient, five}
 use borrow.Author.Needs.{needs}
-use Rattle.profile.proofs.gradients_of.Statement.{statement}
-use Rattle.profile.proofs.gradients_of.Tie as tie
+use Rattle.peak.proofs.gradients_of.Statement.{statement}
+use Rattle.peak.proofs.gradients_of.Tie as tie
 
 array-read-t5 : tie.Need-array-read-t5
 array-read-t5 c = search needs

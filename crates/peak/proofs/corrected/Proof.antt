@@ -1,8 +1,8 @@
 -- `corrected` meets its contract: each sum is the definition's, written out. Assumes nothing.
-use Rattle.profile.proofs.Peaks.{kept, unfolded}
+use Rattle.peak.proofs.Peaks.{kept, unfolded}
 use borrow.Author.Needs.{needs}
-use Rattle.profile.proofs.corrected.Statement.{statement}
-use Rattle.profile.proofs.corrected.Tie as tie
+use Rattle.peak.proofs.corrected.Statement.{statement}
+use Rattle.peak.proofs.corrected.Tie as tie
 
 gradients-of-requires : tie.Need-gradients-of-requires
 gradients-of-requires c κs = search needs

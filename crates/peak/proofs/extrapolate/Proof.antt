@@ -1,9 +1,9 @@
 -- `extrapolate` meets its contract: the tests of the code are those of the definition, in the same order. Assumes nothing.
 use Rattle.camera.proofs.Tests.{failed, passed}
-use Rattle.profile.proofs.Peaks.{settled, lost, lost-far, drawn, under, over}
+use Rattle.peak.proofs.Peaks.{settled, lost, lost-far, drawn, under, over}
 use borrow.Author.Needs.{needs}
-use Rattle.profile.proofs.extrapolate.Statement.{statement}
-use Rattle.profile.proofs.extrapolate.Tie as tie
+use Rattle.peak.proofs.extrapolate.Statement.{statement}
+use Rattle.peak.proofs.extrapolate.Tie as tie
 
 abs-requires : tie.Need-abs-requires
 abs-requires c κs = search needs

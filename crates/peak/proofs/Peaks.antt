@@ -11,12 +11,13 @@ use Rattle.ieee.specs.Floats.{_⊕_, _⊖_, _⊗_, _⊘_, _≺_, float, f0, f1,
 use Rattle.pixel.specs.declared.Direction.{Direction}
 use Rattle.pixel.specs.declared.EdgePoint.{EdgePoint}
 use Rattle.consts.specs.declared.Settings.{Settings}
-use Rattle.profile.specs.declared.Gradients.{Gradients}
-use Rattle.profile.specs.declared.Peaked.{Peaked}
-use Rattle.profile.specs.declared.Peaked.the-variants.{Peak, NoPeak}
-use Rattle.profile.specs.declared.Extrapolated.{Extrapolated}
-use Rattle.profile.specs.declared.Extrapolated.the-variants.{Settled, Moved, Lost}
-use Rattle.profile.specs.Profile.{gradient, tailSum, corrected, five, clears, best, vertex, peakAt, extrapolate, moved, aitken}
+use Rattle.peak.specs.declared.Gradients.{Gradients}
+use Rattle.peak.specs.declared.Peaked.{Peaked}
+use Rattle.peak.specs.declared.Peaked.the-variants.{Peak, NoPeak}
+use Rattle.peak.specs.declared.Extrapolated.{Extrapolated}
+use Rattle.peak.specs.declared.Extrapolated.the-variants.{Settled, Moved, Lost}
+use Rattle.peak.specs.Peak.{gradient, tailSum, corrected, five, clears, best, vertex, peakAt}
+use Rattle.peak.specs.Aitken.{extrapolate, moved, aitken}
 
 -- ---- gradients
 

@@ -1,9 +1,9 @@
 -- `vertex` meets its contract: the tests of the code are those of the definition, in the same order. Assumes nothing.
 use Rattle.camera.proofs.Tests.{failed, passed}
-use Rattle.profile.proofs.Peaks.{flat, endless, far, near, under, over}
+use Rattle.peak.proofs.Peaks.{flat, endless, far, near, under, over}
 use borrow.Author.Needs.{needs}
-use Rattle.profile.proofs.vertex.Statement.{statement}
-use Rattle.profile.proofs.vertex.Tie as tie
+use Rattle.peak.proofs.vertex.Statement.{statement}
+use Rattle.peak.proofs.vertex.Tie as tie
 
 abs-requires : tie.Need-abs-requires
 abs-requires c κs = search needs

@@ -3,11 +3,11 @@ use mathlib.Core.Path.{_∙_}
 use borrow.Author.Tests.{not-true, not-false}
 use Prim.Native.Nat.{ℕ}
 use lib.Ieee.{Float}
-use Rattle.profile.specs.Profile.{corrected, five, peak}
-use Rattle.profile.proofs.Peaks.{at-3, at-4-over, at-2-over, at-2, at-4, nowhere, said, less, peaked, second, third, fourth, around-2, around-3, around-4}
+use Rattle.peak.specs.Peak.{corrected, five, peak}
+use Rattle.peak.proofs.Peaks.{at-3, at-4-over, at-2-over, at-2, at-4, nowhere, said, less, peaked, second, third, fourth, around-2, around-3, around-4}
 use borrow.Author.Needs.{needs}
-use Rattle.profile.proofs.find_peak.Statement.{statement}
-use Rattle.profile.proofs.find_peak.Tie as tie
+use Rattle.peak.proofs.find_peak.Statement.{statement}
+use Rattle.peak.proofs.find_peak.Tie as tie
 
 corrected-requires : tie.Need-corrected-requires
 corrected-requires c κs = search needs

@@ -1,8 +1,8 @@
 -- `clears` meets its contract: a sign for each polarity. Assumes nothing.
-use Rattle.profile.specs.Profile.{clears}
+use Rattle.peak.specs.Peak.{clears}
 use borrow.Author.Needs.{needs}
-use Rattle.profile.proofs.clears.Statement.{statement}
-use Rattle.profile.proofs.clears.Tie as tie
+use Rattle.peak.proofs.clears.Statement.{statement}
+use Rattle.peak.proofs.clears.Tie as tie
 
 int-to-float-floor : tie.Need-int-to-float-floor
 int-to-float-floor c = search needs
