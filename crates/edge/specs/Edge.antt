@@ -4,7 +4,7 @@ use mathlib.Core.Bool.{false}
 use mathlib.Core.List.{List, [], _∷_, _++_}
 use lib.ListN.{length}
 use lib.Ieee.{Float, binary64}
-use Rattle.ieee.specs.Root.{root}
+use Rattle.ieee_root.specs.Root.{root}
 use Rattle.ieee.specs.Floats.{if_then_else_, _⊕_, _⊖_, _⊗_, _⊘_, _≺_, float, f0, f1, f½, f1e-9}
 use Rattle.pixel.specs.Pixels.{source, direction}
 use Rattle.pixel.specs.declared.SourcePixel.{SourcePixel}

@@ -9,7 +9,7 @@ use lib.Ieee.{Float, binary64, neg, toBits}
 use Rattle.number.specs.Numbers as number
 use Rattle.ieee.specs.Floats as Floats
 use Rattle.ieee.specs.Parts as Parts
-use Rattle.ieee.specs.Root as Root
+use Rattle.ieee_root.specs.Root as Root
 use Rattle.sampling.specs.Photographs as Photographs
 use Rattle.sampling.specs.Sampling as Sampling
 use Rattle.look.specs.Look as Look

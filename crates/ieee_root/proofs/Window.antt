@@ -6,7 +6,7 @@ use native.Mathlib.Omega.{arith}
 use lib.Pow.{split}
 use lib.Dec.{lit<}
 use lib.Bits.{bitAnd, and-mask}
-use Rattle.ieee.specs.Root.{NearRoot}
+use Rattle.ieee_root.specs.Root.{NearRoot}
 
 -- ---- the parts, as the code works them out: u and l are t's halves, and t * t is hi * 2 ^ 52 + lo
 abbrev pub upper : ℕ → ℕ

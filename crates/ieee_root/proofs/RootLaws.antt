@@ -16,10 +16,10 @@ use lib.Ieee.{Float, nan, inf, fin, binary64, up, down, units, fits, toBits}
 use lib.Ieee.Exact.{HasValue}
 use lib.Ieee.Fits.{down-pos, and-l, and-r}
 use lib.Ieee.Positive.{positive, above, value-pos}
-use Rattle.ieee.specs.Root.{root, rootBy, rootUnits, NearRoot}
-use Rattle.ieee.proofs.Inputs.{Reading, subnormal, normal, infinite, reading, root-of-value, lifted, lifted-same}
-use Rattle.ieee.proofs.Roots.{square-next, square-middle, square-mono, Floor, rootBy-is, root-units, units-value, units-fits}
-use Rattle.ieee.proofs.Scaled.{shifted, n-low, n-lt, k-high, scaled, r-low, r-high}
+use Rattle.ieee_root.specs.Root.{root, rootBy, rootUnits, NearRoot}
+use Rattle.ieee_root.proofs.Inputs.{Reading, subnormal, normal, infinite, reading, root-of-value, lifted, lifted-same}
+use Rattle.ieee_root.proofs.Roots.{square-next, square-middle, square-mono, Floor, rootBy-is, root-units, units-value, units-fits}
+use Rattle.ieee_root.proofs.Scaled.{shifted, n-low, n-lt, k-high, scaled, r-low, r-high}
 
 -- ---- one number of units
 

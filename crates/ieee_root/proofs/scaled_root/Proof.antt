@@ -4,12 +4,12 @@ use mathlib.Core.Path.{_≡_, sym, ap, _∙_, subst}
 use Prim.Native.Nat.{ℕ, _+_, _-_, _*_, _/_, _%_, _^_, _≤_, _<_}
 use native.Mathlib.Omega.{arith}
 use lib.Ieee.{binary64, ofBits}
-use Rattle.ieee.specs.Root.{rootUnits, NearRoot}
+use Rattle.ieee_root.specs.Root.{rootUnits, NearRoot}
 use Rattle.ieee.proofs.Patterns.{no-nan-small}
-use Rattle.ieee.proofs.Roots.{root-units, pattern-is}
-use Rattle.ieee.proofs.Scaled.{Shifted, shifted, n-low, n-lt, k-high, scaled, r-low, r-high}
-use Rattle.ieee.proofs.root.scaled_root.Statement.{statement}
-use Rattle.ieee.proofs.root.scaled_root.Tie as tie
+use Rattle.ieee_root.proofs.Roots.{root-units, pattern-is}
+use Rattle.ieee_root.proofs.Scaled.{Shifted, shifted, n-low, n-lt, k-high, scaled, r-low, r-high}
+use Rattle.ieee_root.proofs.scaled_root.Statement.{statement}
+use Rattle.ieee_root.proofs.scaled_root.Tie as tie
 
 -- ---- the call's result
 

@@ -1,13 +1,34 @@
-// The root of a number of 53 binary digits: guessed, tested on whole numbers, and by its digits where
-// the test refuses the guess.
+// The square root of binary64: a number of 53 binary digits has its root guessed, tested on whole numbers,
+// and worked out by its digits where the test refuses the guess.
 ghost use mathlib.Core.Path.{_≡_};
 ghost use Prim.Native.Nat.{_+_, _*_, _^_, _≤_, _<_};
 ghost use lib.Ieee.{binary64};
-ghost use Rattle.ieee.specs.Root.{rootUnits, NearRoot};
-use crate::bits_of;
+ghost use Rattle.ieee_root.specs.Root.{root, rootUnits, NearRoot};
+
+// The square root of x.
+pub fn sqrt(x: f64) -> f64
+    ensures { λ r. ⌜ r ≡ root binary64 x ⌝ }
+{
+    if x > 0.0 {
+        let b = f64::to_bits(x);
+        if b < 0x10_0000_0000_0000 {
+            let s = u64::leading_zeros(b) - 11;
+            return scaled_root(b << s, 1074 - (s as u64));
+        }
+        let g = b >> 52;
+        if g == 2047 {
+            return x;
+        }
+        return scaled_root((b & 0xf_ffff_ffff_ffff) | 0x10_0000_0000_0000, g + 1073);
+    }
+    if x == 0.0 {
+        return x;
+    }
+    0.0 / 0.0
+}
 
 // The root of m * 2^g, both in units of 2^-1074.
-pub(crate) fn scaled_root(m: u64, g: u64) -> f64
+fn scaled_root(m: u64, g: u64) -> f64
     requires { ⌜ (2 ^ 52 ≤ m) × (m < 2 ^ 53) ⌝ ∗ ⌜ (1022 ≤ g) × (g < 3121) ⌝ }
     ensures { λ r. ⌜ r ≡ rootUnits binary64 (m * 2 ^ g) ⌝ }
 {
@@ -63,7 +84,7 @@ fn guess(m: u64, p: u64) -> u64
     let s = x * y;
     let u = 1.0 - s * y;
     let g = s + s * u * (0.5 + 0.375 * u);
-    (bits_of(g * 67108864.0) & 0xf_ffff_ffff_ffff) | 0x10_0000_0000_0000
+    (ieee::bits_of(g * 67108864.0) & 0xf_ffff_ffff_ffff) | 0x10_0000_0000_0000
 }
 
 // The whole number nearest to the square root of a * 2^52, by the digits of the root from the

@@ -2,9 +2,9 @@
 use Prim.Native.Nat.{_-_, _*_, _^_, _<_}
 use mathlib.Core.Logic.{⊎-elim}
 use native.Mathlib.Omega.{arith}
-use Rattle.ieee.proofs.Digits.{Down, under, under-last, next-low, next-high, all-of, stays, goes-up}
-use Rattle.ieee.proofs.root.digits_root.Statement.{statement}
-use Rattle.ieee.proofs.root.digits_root.Tie as tie
+use Rattle.ieee_root.proofs.Digits.{Down, under, under-last, next-low, next-high, all-of, stays, goes-up}
+use Rattle.ieee_root.proofs.digits_root.Statement.{statement}
+use Rattle.ieee_root.proofs.digits_root.Tie as tie
 
 abbrev Inv-loop : tie.InvT-loop
 Inv-loop a rest₀ q₀ r₀ i₀ rest q r i = Down (a * 1024) i q r rest

@@ -13,8 +13,8 @@ use lib.Ieee.Exact.{HasValue}
 use lib.Ieee.Fits.{down-pos}
 use lib.Ieee.Scale.{finite}
 use lib.Ieee.Positive.{positive, positive-of-value, value-pos}
-use Rattle.ieee.specs.Root.{root}
-use Rattle.ieee.proofs.RootLaws.{Rooted, rooted, Beside, beside-all, in-units, root-fits-all}
+use Rattle.ieee_root.specs.Root.{root}
+use Rattle.ieee_root.proofs.RootLaws.{Rooted, rooted, Beside, beside-all, in-units, root-fits-all}
 
 -- the magnitude of a finite value in units of 2 ^ -1074
 abbrev pub count : Float → ℕ

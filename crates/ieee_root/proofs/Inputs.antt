@@ -14,8 +14,8 @@ use lib.Ieee.Bits.{ofBits-toBits}
 use lib.Ieee.Exact.{HasValue, odd-sign}
 use lib.Ieee.Fits.{down-pos, up-pos, eq→eqb, and-l, and-i}
 use lib.Ieee.Positive.{positive, above, first-pos, value-pos}
-use Rattle.ieee.specs.Root.{root, rootUnits}
+use Rattle.ieee_root.specs.Root.{root, rootUnits}
 use Rattle.ieee.proofs.Patterns.{yes, no, ofBits-is}
 
 abbrev zero-float : Float
 zero-float = fin false 0 (pos 0)

@@ -3,11 +3,11 @@ use borrow.Author.Needs.{needs}
 use mathlib.Core.Path.{subst}
 use Prim.Native.Nat.{ℕ, _+_, _-_, _*_, _%_, _^_}
 use native.Mathlib.Omega.{arith}
-use Rattle.ieee.specs.Root.{NearRoot}
-use Rattle.ieee.proofs.Scaled.{Shifted, shifted}
-use Rattle.ieee.proofs.Window.{Square, square, near-one, near-two, near-three}
-use Rattle.ieee.proofs.root.rounded_root.Statement.{statement}
-use Rattle.ieee.proofs.root.rounded_root.Tie as tie
+use Rattle.ieee_root.specs.Root.{NearRoot}
+use Rattle.ieee_root.proofs.Scaled.{Shifted, shifted}
+use Rattle.ieee_root.proofs.Window.{Square, square, near-one, near-two, near-three}
+use Rattle.ieee_root.proofs.rounded_root.Statement.{statement}
+use Rattle.ieee_root.proofs.rounded_root.Tie as tie
 
 -- two below the guess
 abbrev t : tie.After-guess → ℕ

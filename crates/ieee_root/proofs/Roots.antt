@@ -14,7 +14,7 @@ use lib.Ieee.Digits.{size-lt, size-le}
 use lib.Ieee.Exact.{HasValue, odd-sign}
 use lib.Ieee.Fits.{down-pos, odd-fits}
 use lib.Ieee.Bits.{ofBits-toBits}
-use Rattle.ieee.specs.Root.{rootBy, rootUnits, NearRoot}
+use Rattle.ieee_root.specs.Root.{rootBy, rootUnits, NearRoot}
 
 -- ---- squares
 

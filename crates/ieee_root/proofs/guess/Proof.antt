@@ -3,10 +3,10 @@ use borrow.Author.Needs.{needs}
 use mathlib.Core.Path.{sym, subst}
 use Prim.Native.Nat.{ℕ, _+_, _-_, _*_, _/_, _%_, _^_, _≤_, _<_}
 use native.Mathlib.Omega.{arith}
 use Rattle.ieee.proofs.Patterns.{no-nan-small}
-use Rattle.ieee.proofs.Inputs.{digits-are}
-use Rattle.ieee.proofs.root.guess.Statement.{statement}
-use Rattle.ieee.proofs.root.guess.Tie as tie
+use Rattle.ieee_root.proofs.Inputs.{digits-are}
+use Rattle.ieee_root.proofs.guess.Statement.{statement}
+use Rattle.ieee_root.proofs.guess.Tie as tie
 
 add-i : tie.Need-add-i
 add-i c = search needs

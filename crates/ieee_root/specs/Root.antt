@@ -1,4 +1,4 @@
--- IEEE 754's square root, through squares of whole numbers. Definitions only.
+-- IEEE 754's square root, Rust's `f64::sqrt`, through squares of whole numbers. Definitions only; `opened` is internal.
 -- A value is one of `lib.Ieee`, a format f one of its two: `prec f` is how many binary digits it keeps, and 2 ^ -low f is its smallest value, the unit that is counted in here.
 -- That `root` is the nearest value of the format to the true root is a theorem, `root-nearest` of proofs/RootNearest.antt.
 use Prim.Native.Nat.{ℕ, zero, suc, _+_, _-_, _*_, _/_, _^_, _≤_, _<_, compare}

@@ -14,10 +14,10 @@ use lib.Pow.{pow-pos}
 use lib.Ieee.{Float, nan, inf, fin, binary64, fits}
 use lib.Ieee.Scale.{finite}
 use lib.Ieee.Positive.{positive, positive-finite}
-use Rattle.ieee.specs.Root.{root}
-use Rattle.ieee.proofs.Roots.{square-mono}
-use Rattle.ieee.proofs.RootLaws.{Beside, half-unit, root-fits-all}
-use Rattle.ieee.proofs.Counts.{count, negative, count-exact, count-tells, count-of, positive-sign, found, root-above, beside, above-half}
+use Rattle.ieee_root.specs.Root.{root}
+use Rattle.ieee_root.proofs.Roots.{square-mono}
+use Rattle.ieee_root.proofs.RootLaws.{Beside, half-unit, root-fits-all}
+use Rattle.ieee_root.proofs.Counts.{count, negative, count-exact, count-tells, count-of, positive-sign, found, root-above, beside, above-half}
 
 -- ---- the root is a value of the format
 

@@ -4,8 +4,8 @@ use Prim.Native.Nat.{ℕ, zero, suc, _+_, _-_, _*_, _/_, _%_, _^_, _≤_, _<_}
 use native.Mathlib.Nat.{mul-assoc, mul-le-mul-right}
 use native.Mathlib.Omega.{arith}
 use lib.Pow.{pow-add}
-use Rattle.ieee.specs.Root.{NearRoot}
-use Rattle.ieee.proofs.Roots.{near-low, near-high}
+use Rattle.ieee_root.specs.Root.{NearRoot}
+use Rattle.ieee_root.proofs.Roots.{near-low, near-high}
 
 -- ---- m shifted by one place or none
 
