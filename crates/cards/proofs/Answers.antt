@@ -36,17 +36,18 @@ use Rattle.fit.specs.declared.EdgeFit.the-variants.{Stops, Weak, Lined}
 use Rattle.fit.specs.Fit.{stat, kept, lined, refit, trimmed, firstFit, fitEdge, residuals, threshold, fitPoints}
 use Rattle.fit.proofs.Keeping.{kept-fewer}
 use Rattle.look.proofs.Always.{Always, ends, always-value, always-bind, always-after, always-weaker}
-use Rattle.profile.specs.declared.Located.{Located}
-use Rattle.profile.specs.declared.Located.the-variants.{Found, NoEdge}
+use Rattle.peak.specs.declared.Located.{Located}
+use Rattle.peak.specs.declared.Located.the-variants.{Found, NoEdge}
 use Rattle.grid.specs.declared.Probe.{Probe}
 use Rattle.grid.specs.Grids.{Grid, gridOf}
 use Rattle.grid.specs.Probes.{probesOf, thinned}
 use Rattle.edge.specs.declared.Plan.{Plan}
 use Rattle.edge.specs.declared.Side.{Side}
 use Rattle.edge.specs.Edge.{probed, plus, points, fitted, edgeLength, edge}
-use Rattle.rounds.specs.declared.Answer.{Answer}
-use Rattle.rounds.specs.declared.Edges.{Edges}
-use Rattle.rounds.specs.Rounds.{refused, answered, noEdges, joined, onward, sideOf, edgesFrom, lineIn, statIn, validCount, crossedAt, orElse, refinedCorners, roundEnd, mappedRound, round, isWeak, further, rounds}
+use Rattle.corners.specs.declared.Answer.{Answer}
+use Rattle.corners.specs.declared.Edges.{Edges}
+use Rattle.corners.specs.Corners.{refused, answered, noEdges, joined, lineIn, statIn, validCount, crossedAt, orElse, refinedCorners, roundEnd}
+use Rattle.rounds.specs.Rounds.{onward, sideOf, edgesFrom, mappedRound, round, isWeak, further, rounds}
 use Rattle.refine.specs.declared.Request.{Request}
 use Rattle.refine.specs.Refine.{Photograph, cells, entry, planOf, sceneOf, shown, sourceCorners, refinement, result, refine}
 use Rattle.number.specs.Numbers as number

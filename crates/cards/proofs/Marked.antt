@@ -4,8 +4,8 @@ use mathlib.Core.Bool.{true, false}
 use mathlib.Core.Path.{_≡_}
 use mathlib.Core.List.{List}
 use Rattle.number.specs.Numbers as number
-use Rattle.rounds.specs.declared.Answer.{Answer}
-use Rattle.rounds.specs.Rounds.{refused}
+use Rattle.corners.specs.declared.Answer.{Answer}
+use Rattle.corners.specs.Corners.{refused}
 use Rattle.refine.specs.declared.Request.{Request}
 use Rattle.refine.specs.Refine.{photograph}
 use Rattle.marking.specs.Marking.{Marks}

@@ -16,7 +16,7 @@ use Rattle.pixel.specs.declared.SourcePixel.{SourcePixel}
 use Rattle.fit.specs.declared.EdgeStat.{EdgeStat}
 use Rattle.fit.specs.Fit.{stat}
 use Rattle.look.specs.Sheets.{bit}
-use Rattle.rounds.specs.declared.RefinedCorners.{RefinedCorners}
+use Rattle.corners.specs.declared.RefinedCorners.{RefinedCorners}
 use Rattle.number.specs.Numbers as number
 use Rattle.cards.specs.Fields.{byteAt, numberAt, floatAt, bytesOf, floatBytes, field}
 use Rattle.cards.specs.JobCard.{jobAnswer}

@@ -10,7 +10,7 @@ use lib.ListN.{length, drop, getD, set, length-append}
 use lib.Seq.{drop-cons, drop-length, sets, sets-eq, length-sets}
 use lib.Ieee.{Float, binary64, toBits}
 use Rattle.fit.specs.declared.EdgeStat.{EdgeStat}
-use Rattle.rounds.specs.declared.RefinedCorners.{RefinedCorners}
+use Rattle.corners.specs.declared.RefinedCorners.{RefinedCorners}
 use Rattle.cards.specs.Fields.{bytesOf, floatBytes, field}
 use Rattle.cards.specs.ResultCard.{cornerBytes, statBytes, flagBytes, resultCard}
 

@@ -15,8 +15,8 @@ use Rattle.camera.specs.declared.LensDistortion.{LensDistortion}
 use Rattle.camera.specs.declared.LensDistortion.the-variants.{None, BrownConrady}
 use Rattle.sampling.specs.declared.View.{View}
 use Rattle.sampling.specs.declared.View.the-variants.{Plain, Calibrated}
-use Rattle.rounds.specs.declared.Answer.{Answer}
-use Rattle.rounds.specs.Rounds.{refused}
+use Rattle.corners.specs.declared.Answer.{Answer}
+use Rattle.corners.specs.Corners.{refused}
 use Rattle.refine.specs.declared.Request.{Request}
 use Rattle.refine.specs.Refine.{Photograph, refine}
 use Rattle.cards.specs.Fields.{byteAt, numberAt, floatAt}

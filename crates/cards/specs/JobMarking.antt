@@ -4,8 +4,8 @@ use Prim.Native.Nat.{ℕ}
 use mathlib.Core.List.{List}
 use Rattle.number.specs.Numbers as number
 use Rattle.ieee.specs.Floats.{if_then_else_}
-use Rattle.rounds.specs.declared.Answer.{Answer}
-use Rattle.rounds.specs.Rounds.{refused}
+use Rattle.corners.specs.declared.Answer.{Answer}
+use Rattle.corners.specs.Corners.{refused}
 use Rattle.marking.specs.Marking.{refineMarking, sheetAfter, copyAfter}
 use Rattle.cards.specs.JobCard.{goodCard, requestOf, modulesOf, photographOf}
 

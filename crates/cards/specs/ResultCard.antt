@@ -13,8 +13,8 @@ use Rattle.pixel.specs.declared.SourcePixel.{SourcePixel}
 use Rattle.fit.specs.declared.EdgeStat.{EdgeStat}
 use Rattle.fit.specs.Fit.{stat}
 use Rattle.look.specs.Sheets.{bit}
-use Rattle.rounds.specs.declared.RefinedCorners.{RefinedCorners}
-use Rattle.rounds.specs.Rounds.{four}
+use Rattle.corners.specs.declared.RefinedCorners.{RefinedCorners}
+use Rattle.corners.specs.Corners.{four}
 use Rattle.cards.specs.Fields.{byteAt, floatAt, floatBytes, field}
 use Rattle.cards.specs.JobCard.{goodCard, jobAnswer}
 

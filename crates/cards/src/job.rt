@@ -27,9 +27,9 @@ use crate::result_card::put_result;
 use camera::CameraCalibration;
 use camera::CameraIntrinsics;
 use camera::LensDistortion;
+use corners::Answer;
 use pixel::WorkingPixel;
 use refine::Request;
-use rounds::Answer;
 use sampling::View;
 
 // A field's part. Its number is 0 wherever this is called: the card is well formed.
@@ -169,7 +169,7 @@ pub fn run_job(card: &[u8]) -> Answer
     ensures { λ r. ⌜ r ≡ jobAnswer (now (card .entry)) ⌝ }
 {
     if !is_good(card) {
-        return rounds::refused(number::CARD);
+        return corners::refused(number::CARD);
     }
     refine::refine_corners_mapped(
         part(card, 2),

@@ -5,7 +5,7 @@ use crate::job::part;
 use crate::job::request_of;
 use crate::job::stride_of;
 use crate::job_card::is_good;
-use rounds::Answer;
+use corners::Answer;
 
 // Runs a job card, and writes what it read to sheet and copy, as `marking::refine_corners_mapped_marking` does. A malformed
 // card writes nothing.
@@ -14,7 +14,7 @@ pub fn run_job_marking(card: &[u8], sheet: &mut [u8], copy: &mut [u8]) -> Answer
         (now (sheet .entry)) (now (sheet .exit)) (now (copy .entry)) (now (copy .exit)) ⌝ }
 {
     if !is_good(card) {
-        return rounds::refused(number::CARD);
+        return corners::refused(number::CARD);
     }
     marking::refine_corners_mapped_marking(
         part(card, 2),

@@ -8,9 +8,9 @@ ghost use Rattle.cards.specs.Fields.{bytesOf};
 ghost use Rattle.cards.specs.ResultCard.{cornerBytes, statBytes, flagBytes, resultCard};
 use crate::fields::put_float;
 use crate::fields::put_number;
+use corners::RefinedCorners;
 use fit::EdgeStat;
 use pixel::SourcePixel;
-use rounds::RefinedCorners;
 
 // Three headers, four corners, four counts of four bytes, four flags.
 pub const RESULT_SIZE: usize = 93;

@@ -14,7 +14,7 @@ use Rattle.look.specs.Run.{Sampler, Runs}
 use Rattle.look.proofs.Steps.{Leads, start, then, called, end}
 use Rattle.fit.specs.Fit.{fitEdge}
 use Rattle.fit.specs.declared.EdgeFit.{EdgeFit}
-use Rattle.profile.specs.declared.Located.{Located}
+use Rattle.peak.specs.declared.Located.{Located}
 use Rattle.grid.specs.declared.Probe.{Probe}
 use Rattle.edge.specs.declared.Plan.{Plan}
 use Rattle.edge.specs.declared.Side.{Side}

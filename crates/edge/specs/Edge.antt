@@ -4,7 +4,7 @@ use mathlib.Core.Bool.{false}
 use mathlib.Core.List.{List, [], _∷_, _++_}
 use lib.ListN.{length}
 use lib.Ieee.{Float, binary64}
-use Rattle.ieee.specs.Root.{root}
+use Rattle.ieee_root.specs.Root.{root}
 use Rattle.ieee.specs.Floats.{if_then_else_, _⊕_, _⊖_, _⊗_, _⊘_, _≺_, float, f0, f1, f½, f1e-9}
 use Rattle.pixel.specs.Pixels.{source, direction}
 use Rattle.pixel.specs.declared.SourcePixel.{SourcePixel}
@@ -15,8 +15,8 @@ use Rattle.fit.specs.declared.EdgeFit.{EdgeFit}
 use Rattle.fit.specs.declared.EdgeFit.the-variants.{Weak}
 use Rattle.fit.specs.Fit.{stat, fitEdge}
 use Rattle.look.specs.Look.{Look, done, _>>=_}
-use Rattle.profile.specs.declared.Located.{Located}
-use Rattle.profile.specs.declared.Located.the-variants.{Found, NoEdge}
+use Rattle.peak.specs.declared.Located.{Located}
+use Rattle.peak.specs.declared.Located.the-variants.{Found, NoEdge}
 use Rattle.profile.specs.Profile.{localize}
 use Rattle.grid.specs.declared.Probe.{Probe}
 use Rattle.grid.specs.Grids.{gridOf, bySide}

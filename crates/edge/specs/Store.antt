@@ -8,7 +8,7 @@ use Rattle.pixel.specs.declared.EdgePoint.{EdgePoint}
 use Rattle.consts.specs.Consts.{room}
 use Rattle.fit.specs.Fit.{pointsOf}
 use Rattle.grid.specs.declared.Probes.{Probes}
-use Rattle.profile.specs.declared.Located.{Located}
+use Rattle.peak.specs.declared.Located.{Located}
 use Rattle.edge.specs.Edge.{plus}
 
 abbrev pub storedTo : ℕ → (xs ys ws : List Float) → List EdgePoint

@@ -17,10 +17,10 @@ use grid::Probe;
 use grid::Probes;
 use homography::PerspectiveTransform;
 use look::Meter;
+use peak::Located;
 use pixel::Direction;
 use pixel::SourcePixel;
 use profile::Localized;
-use profile::Located;
 use profile::Ray;
 use sampling::Scene;
 
@@ -100,7 +100,7 @@ fn aim_of(plan: Plan, side: Side, probe: Probe) -> Aim
     let inner = map.map(i.0, i.1);
     let ox = coarse.0 - inner.0;
     let oy = coarse.1 - inner.1;
-    let perp_module_px = ieee::sqrt(ox * ox + oy * oy);
+    let perp_module_px = ieee_root::sqrt(ox * ox + oy * oy);
     Aim {
         perp_module_px,
         ray: Ray {
@@ -260,7 +260,7 @@ fn length_of(a: SourcePixel, b: SourcePixel) -> f64
 {
     let dx = b.0 - a.0;
     let dy = b.1 - a.1;
-    ieee::sqrt(dx * dx + dy * dy)
+    ieee_root::sqrt(dx * dx + dy * dy)
 }
 
 // One edge of a round: where its corners coincide there is no line, and nothing is counted.

@@ -2,7 +2,7 @@
 ghost use mathlib.Core.Path.{_≡_};
 ghost use lib.ListN.{set};
 ghost use lib.Ieee.{binary64};
-ghost use Rattle.ieee.specs.Root.{root};
+ghost use Rattle.ieee_root.specs.Root.{root};
 ghost use Rattle.pixel.specs.Pixels.{source};
 ghost use Rattle.sampling.specs.Sampling.{sampleBilinear};
 ghost use Rattle.sampling.specs.declared.View.the-variants.{Plain};
@@ -245,5 +245,5 @@ pub extern "C" fn trufolmesca_localize_edge_point_mapped(
 pub extern "C" fn trufolmesca_sqrt(x: f64) -> f64
     ensures { λ r. ⌜ r ≡ root binary64 x ⌝ }
 {
-    ieee::sqrt(x)
+    ieee_root::sqrt(x)
 }

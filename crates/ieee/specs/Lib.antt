@@ -1,4 +1,3 @@
 -- What the contracts of `ieee` cite, and the arithmetic that the definitions of every crate above are written in.
 pub mod Floats
 pub mod Parts
-pub mod Root

@@ -1,4 +1,4 @@
--- What the functions of `ieee` but the root compute. Definitions only.
+-- What the functions of `ieee` compute. Definitions only.
 -- A value is one of `lib.Ieee`: `nan`, an infinity `inf s`, or `fin s m e`, the number m * 2 ^ e, negative where s is true; 2 ^ e is the fraction up e / down e.
 use Prim.Native.Nat.{ℕ, _+_, _-_, _*_, _/_}
 use mathlib.Core.Bool.{Bool, true, false, cond}

@@ -1,13 +1,10 @@
 // IEEE 754's binary64, worked out from bit patterns. A value is the logic's `Float` (specs/), of which
 // each contract names the definition that its result equals. No function asks anything of its caller.
-mod root;
-
 ghost use mathlib.Core.Path.{_≡_};
 ghost use mathlib.Core.Bool.{true};
 ghost use lib.Ieee.{binary64, toBits, ofBits, toUnsigned};
 ghost use Rattle.ieee.specs.Floats.{f0, _≼_};
 ghost use Rattle.ieee.specs.Parts.{magnitude, isFinite, floorOf, ceilOf, larger, splitWhole};
-ghost use Rattle.ieee.specs.Root.{root};
 
 // A value's whole part, and what is left of it: its fraction, where the value is in the range of the whole part.
 pub struct Split {
@@ -147,26 +144,4 @@ pub fn whole_part(x: f64) -> u32
     ensures { λ r. ⌜ r ≡ toUnsigned 32 x ⌝ }
 {
     split_whole(x).whole
-}
-
-// The square root of x.
-pub fn sqrt(x: f64) -> f64
-    ensures { λ r. ⌜ r ≡ root binary64 x ⌝ }
-{
-    if x > 0.0 {
-        let b = f64::to_bits(x);
-        if b < 0x10_0000_0000_0000 {
-            let s = u64::leading_zeros(b) - 11;
-            return root::scaled_root(b << s, 1074 - (s as u64));
-        }
-        let g = b >> 52;
-        if g == 2047 {
-            return x;
-        }
-        return root::scaled_root((b & 0xf_ffff_ffff_ffff) | 0x10_0000_0000_0000, g + 1073);
-    }
-    if x == 0.0 {
-        return x;
-    }
-    0.0 / 0.0
 }

@@ -2,7 +2,7 @@
 ghost use mathlib.Core.Path.{_≡_};
 ghost use lib.Ieee.{binary64, toBits, ofBits, toUnsigned};
 ghost use Rattle.ieee.specs.Parts.{magnitude, isFinite, larger, floorOf, ceilOf};
-ghost use Rattle.ieee.specs.Root.{root};
+ghost use Rattle.ieee_root.specs.Root.{root};
 
 #[no_mangle]
 pub extern "C" fn ieee_bits_of(x: f64) -> u64
@@ -57,7 +57,7 @@ pub extern "C" fn ieee_ceil(x: f64) -> f64
 pub extern "C" fn ieee_sqrt(x: f64) -> f64
     ensures { λ r. ⌜ r ≡ root binary64 x ⌝ }
 {
-    ieee::sqrt(x)
+    ieee_root::sqrt(x)
 }
 
 #[no_mangle]

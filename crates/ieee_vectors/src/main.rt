@@ -42,7 +42,7 @@ fn print_answers(before: f64, b: u64) {
     let x = ieee::from_bits(b);
     io::print_hex(1, b, 16);
     print_bits(x);
-    print_bits(ieee::sqrt(x));
+    print_bits(ieee_root::sqrt(x));
     print_bits(ieee::floor(x));
     print_bits(ieee::ceil(x));
     print_bits(ieee::abs(x));

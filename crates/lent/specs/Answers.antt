@@ -10,9 +10,9 @@ use Rattle.pixel.specs.declared.WorkingPixel.{WorkingPixel}
 use Rattle.pixel.specs.declared.SourcePixel.{SourcePixel}
 use Rattle.fit.specs.declared.EdgeStat.{EdgeStat}
 use Rattle.look.specs.Sheets.{bit}
-use Rattle.rounds.specs.declared.RefinedCorners.{RefinedCorners}
-use Rattle.rounds.specs.declared.Answer.{Answer}
-use Rattle.rounds.specs.Rounds.{noStat}
+use Rattle.corners.specs.declared.RefinedCorners.{RefinedCorners}
+use Rattle.corners.specs.declared.Answer.{Answer}
+use Rattle.corners.specs.Corners.{noStat}
 use Rattle.lent.specs.Lent.{floatAt, withPlaceAt}
 
 abbrev pub workingAt : List Float → ℕ → WorkingPixel

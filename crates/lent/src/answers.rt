@@ -3,10 +3,10 @@ ghost use mathlib.Core.Path.{_≡_};
 ghost use lib.ListN.{set};
 ghost use Rattle.look.specs.Sheets.{bit as bitOf};
 ghost use Rattle.lent.specs.Answers.{workingOf, withCorners, withStat, withStats, withFlags, Written};
+use corners::Answer;
 use fit::EdgeStat;
 use pixel::SourcePixel;
 use pixel::WorkingPixel;
-use rounds::Answer;
 
 pub fn working_of(s: &[f64]) -> [WorkingPixel; 4]
     ensures { λ r. ⌜ r ≡ workingOf (now (s .entry)) ⌝ }

@@ -7,7 +7,7 @@ use lib.ListN.{length}
 use lib.Ieee.{Float, neg, binary64}
 use Rattle.number.specs.Numbers as number
 use Rattle.ieee.specs.Parts.{isFinite, magnitude}
-use Rattle.ieee.specs.Root.{root}
+use Rattle.ieee_root.specs.Root.{root}
 use Rattle.ieee.specs.Floats.{if_then_else_, _⊕_, _⊖_, _⊗_, _⊘_, _≐_, _≺_, _≼_, f0, f1, f2, ε, f1e-9}
 use Rattle.pixel.specs.Pixels.{source, direction}
 use Rattle.pixel.specs.declared.SourcePixel.{SourcePixel}

@@ -142,13 +142,13 @@ fn lean(a: f64, b: f64, h: f64) -> Direction
     ensures { λ r. ⌜ r ≡ leaning a b h ⌝ }
 {
     if a >= 0.0 {
-        let c = ieee::sqrt((h + a) / (2.0 * h));
+        let c = ieee_root::sqrt((h + a) / (2.0 * h));
         return Direction {
             x: c,
             y: b / (2.0 * h * c),
         };
     }
-    let m = ieee::sqrt((h - a) / (2.0 * h));
+    let m = ieee_root::sqrt((h - a) / (2.0 * h));
     if b >= 0.0 {
         return Direction {
             x: b / (2.0 * h * m),
@@ -167,7 +167,7 @@ fn direction_of(m: Moments) -> Direction
 {
     let a = m.sxx - m.syy;
     let b = 2.0 * m.sxy;
-    let h = ieee::sqrt(a * a + b * b);
+    let h = ieee_root::sqrt(a * a + b * b);
     if h == 0.0 {
         return Direction { x: 1.0, y: 0.0 };
     }

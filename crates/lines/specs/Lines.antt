@@ -17,8 +17,8 @@ use Rattle.pixel.specs.declared.SourcePixel.{SourcePixel}
 use Rattle.fit.specs.declared.EdgeStat.{EdgeStat}
 use Rattle.fit.specs.Fit.{stat}
 use Rattle.look.specs.Sheets.{bit}
-use Rattle.rounds.specs.declared.RefinedCorners.{RefinedCorners}
-use Rattle.rounds.specs.declared.Answer.{Answer}
+use Rattle.corners.specs.declared.RefinedCorners.{RefinedCorners}
+use Rattle.corners.specs.declared.Answer.{Answer}
 
 -- ---- fields
 

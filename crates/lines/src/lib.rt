@@ -15,10 +15,10 @@ ghost use Rattle.lines.specs.Lines.{
   answerLines,
 };
 ghost use Rattle.lines.specs.Puts.{Puts};
+use corners::Answer;
+use corners::RefinedCorners;
 use fit::EdgeStat;
 use pixel::SourcePixel;
-use rounds::Answer;
-use rounds::RefinedCorners;
 
 // Copies a text to the bytes from `at` on. Like every function here that writes a piece, it answers where the next one goes.
 fn put_text(out: &mut [u8], at: usize, text: &[u8]) -> usize

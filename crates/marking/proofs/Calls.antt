@@ -13,8 +13,8 @@ use Rattle.look.specs.declared.Meter.{Meter}
 use Rattle.look.specs.Look.{Look}
 use Rattle.look.specs.Run.{Ran, ran, run, State, state, sampler, Runs}
 use Rattle.look.proofs.Meaning.{run-cleared}
-use Rattle.rounds.specs.declared.Answer.{Answer}
-use Rattle.rounds.specs.Rounds.{refused}
+use Rattle.corners.specs.declared.Answer.{Answer}
+use Rattle.corners.specs.Corners.{refused}
 use Rattle.refine.specs.declared.Request.{Request}
 use Rattle.refine.specs.Refine.{Photograph, sceneOf, shown, refinement, result, readsOf}
 use Rattle.marking.specs.Marking.{markingEntry, markingNumber, refineMarking, sheetAfter, copyAfter, Marks, RunsMarked}

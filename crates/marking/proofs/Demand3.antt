@@ -21,7 +21,7 @@ use Rattle.look.specs.Sheets.{isRead, bit, sheet, copy}
 use Rattle.look.proofs.Inside.{reads-inside}
 use Rattle.look.proofs.Sheets.{is-true, each-read, sheet-at, copy-at, length-sheet, length-copy}
 use Rattle.look.proofs.Demand3 as look
-use Rattle.rounds.specs.declared.Answer.{Answer}
+use Rattle.corners.specs.declared.Answer.{Answer}
 use Rattle.rounds.specs.Rounds.{rounds}
 use Rattle.refine.specs.declared.Request.{Request}
 use Rattle.refine.specs.Refine.{Photograph, sourceCorners, planOf, sceneOf, shown, entry, refinement, result, readsOf}

@@ -10,7 +10,7 @@ use Rattle.number.specs.Numbers as number
 use Rattle.ieee.specs.Floats.{if_then_else_}
 use Rattle.sampling.specs.Photographs.{Pixel}
 use Rattle.look.specs.Sheets.{isRead, bit}
-use Rattle.rounds.specs.declared.Answer.{Answer}
+use Rattle.corners.specs.declared.Answer.{Answer}
 use Rattle.refine.specs.declared.Request.{Request}
 use Rattle.refine.specs.Refine.{Photograph, cells, shown, readsOf}
 use Rattle.marking.specs.Marking.{area, markingEntry, Marks}

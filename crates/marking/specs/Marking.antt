@@ -11,8 +11,8 @@ use Rattle.sampling.specs.Photographs.{Photo, goodSize}
 use Rattle.sampling.specs.declared.Scene.{Scene}
 use Rattle.look.specs.Look.{Look, value, reads}
 use Rattle.look.specs.Sheets as Sheets
-use Rattle.rounds.specs.declared.Answer.{Answer}
-use Rattle.rounds.specs.Rounds.{refused}
+use Rattle.corners.specs.declared.Answer.{Answer}
+use Rattle.corners.specs.Corners.{refused}
 use Rattle.refine.specs.declared.Request.{Request}
 use Rattle.refine.specs.Refine.{Photograph, check, first, entryChecks, shown, result, readsOf}
 

@@ -2,8 +2,8 @@
 ghost use Rattle.sampling.specs.Photographs.{photo};
 ghost use Rattle.refine.specs.Refine.{photograph, plain, refinement, sceneOf};
 ghost use Rattle.marking.specs.Marking.{Marks, Ready, RunsMarked};
+use corners::Answer;
 use refine::Request;
-use rounds::Answer;
 
 mod sheets; // sheets.rt: clearing a sheet or a copy
 
@@ -37,14 +37,14 @@ pub fn refine_corners_mapped_marking(
 {
     let refusal = refine::entry_number(bytes, stride, modules, request);
     if refusal != number::ANSWER {
-        return rounds::refused(refusal);
+        return corners::refused(refusal);
     }
     let area = refine::area(request.width, request.height);
     if sheet.len() < area {
-        return rounds::refused(number::SHEET);
+        return corners::refused(number::SHEET);
     }
     if copy.len() < area {
-        return rounds::refused(number::SHEET);
+        return corners::refused(number::SHEET);
     }
     marking_run(bytes, stride, modules, request, sheet, copy)
 }

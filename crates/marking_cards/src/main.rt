@@ -13,11 +13,11 @@ use bytes::put;
 use bytes::same;
 use bytes::soil;
 use bytes::wide;
+use corners::Answer;
 use others::HEAD;
 use others::over_copy;
 use others::over_others;
 use others::shape_of;
-use rounds::Answer;
 
 // The dirt of runs that are asked what they left of it.
 const DIRT: u8 = 17;

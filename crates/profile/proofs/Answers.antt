@@ -12,7 +12,7 @@ use Rattle.sampling.specs.Photographs.{photo, photographNumber}
 use Rattle.sampling.specs.Sampling.{goodView}
 use Rattle.sampling.specs.declared.Scene.{Scene}
 use Rattle.look.specs.Look.{value}
-use Rattle.profile.specs.declared.Located.{Located}
+use Rattle.peak.specs.declared.Located.{Located}
 use Rattle.profile.specs.declared.Ray.{Ray}
 use Rattle.profile.specs.Profile.{localize, noPoint, pointAnswer, viewNumber, localizeEdgePoint}
 

@@ -17,10 +17,11 @@ use Rattle.look.proofs.Bounds.{AtMost, taken-most, most-done, most-sample, most
 use Rattle.pixel.specs.Pixels.{edgePoint}
 use Rattle.pixel.specs.declared.Direction.{Direction}
 use Rattle.pixel.specs.declared.EdgePoint.{EdgePoint}
-use Rattle.profile.specs.declared.Located.{Located}
-use Rattle.profile.specs.declared.Located.the-variants.{Found, NoEdge}
+use Rattle.peak.specs.declared.Located.{Located}
+use Rattle.peak.specs.declared.Located.the-variants.{Found, NoEdge}
 use Rattle.profile.specs.declared.Ray.{Ray}
-use Rattle.profile.specs.Profile.{stepped, gather, profile, pass, passed, projection, aitken, andThen, _>>=_, passes, localize}
+use Rattle.peak.specs.Aitken.{projection, aitken}
+use Rattle.profile.specs.Profile.{stepped, gather, profile, pass, passed, andThen, _>>=_, passes, localize}
 
 module _ (normal : Direction) (step : Float) where
   rest : SourcePixel → ℕ → ℕ → List Float → Sampled → Look (Option (List Float))

@@ -1,5 +1,4 @@
 -- What holds of an edge point.
-pub mod Peaks
 pub mod Gather
 pub mod Passes
 pub mod Bounds

@@ -15,12 +15,14 @@ use Rattle.look.specs.Look.{Look, done}
 use Rattle.look.specs.Run.{Sampler, Runs}
 use Rattle.look.proofs.Steps.{Leads, start, then, called, end}
 use Rattle.pixel.specs.declared.EdgePoint.{EdgePoint}
-use Rattle.profile.specs.declared.Peaked.{Peaked}
-use Rattle.profile.specs.declared.Peaked.the-variants.{Peak, NoPeak}
-use Rattle.profile.specs.declared.Located.{Located}
-use Rattle.profile.specs.declared.Located.the-variants.{NoEdge}
+use Rattle.peak.specs.declared.Peaked.{Peaked}
+use Rattle.peak.specs.declared.Peaked.the-variants.{Peak, NoPeak}
+use Rattle.peak.specs.declared.Located.{Located}
+use Rattle.peak.specs.declared.Located.the-variants.{NoEdge}
 use Rattle.profile.specs.declared.Ray.{Ray}
-use Rattle.profile.specs.Profile.{stepped, profile, peak, found, passed, pass, projection, aitken, andThen, _>>=_, passes}
+use Rattle.peak.specs.Peak.{peak}
+use Rattle.peak.specs.Aitken.{projection, aitken}
+use Rattle.profile.specs.Profile.{stepped, profile, found, passed, pass, andThen, _>>=_, passes}
 
 module _ {S : Type 0} (ask : Sampler S) (settings : Settings) (ray : Ray) (first : EdgePoint) where
   abbrev whole : Look Located

@@ -14,8 +14,9 @@ use Rattle.sampling.specs.Photographs.{photo}
 use Rattle.look.specs.Run.{State, sampler, Runs}
 use Rattle.look.proofs.Meaning.{ran-value}
 use Rattle.edge.specs.declared.Task.{Task}
-use Rattle.rounds.specs.declared.Answer.{Answer}
-use Rattle.rounds.specs.Rounds.{refused, rounds}
+use Rattle.corners.specs.declared.Answer.{Answer}
+use Rattle.corners.specs.Corners.{refused}
+use Rattle.rounds.specs.Rounds.{rounds}
 use Rattle.refine.specs.declared.Request.{Request}
 use Rattle.refine.specs.Refine.{Photograph, cells, sceneOf, shown, sourceCorners, taskOf, entry, refinement, result, refine}
 

@@ -9,17 +9,20 @@ use lib.Ieee.{Float, binary64, neg, toBits}
 use Rattle.number.specs.Numbers as number
 use Rattle.ieee.specs.Floats as Floats
 use Rattle.ieee.specs.Parts as Parts
-use Rattle.ieee.specs.Root as Root
+use Rattle.ieee_root.specs.Root as Root
 use Rattle.sampling.specs.Photographs as Photographs
 use Rattle.sampling.specs.Sampling as Sampling
 use Rattle.look.specs.Look as Look
 use Rattle.homography.specs.Homography as Homography
 use Rattle.line.specs.Line as Line
 use Rattle.fit.specs.Fit as Fit
+use Rattle.peak.specs.Peak as Peaks
+use Rattle.peak.specs.Aitken as Aitken
 use Rattle.profile.specs.Profile as Profile
 use Rattle.grid.specs.Grids as Grids
 use Rattle.grid.specs.Probes as Probes
 use Rattle.edge.specs.Edge as Edge
+use Rattle.corners.specs.Corners as Corners
 use Rattle.rounds.specs.Rounds as Rounds
 use Rattle.refine.specs.Refine as Refine
 use Rattle.ieee.specs.Floats.{_⊘_, f0, f1, f2, f3, f½, float}
@@ -37,11 +40,12 @@ use Rattle.sampling.specs.declared.BorderMode.the-variants.{Reject}
 use Rattle.sampling.specs.declared.LumaAnswer.{LumaAnswer}
 use Rattle.sampling.specs.declared.View.the-variants.{Plain}
 use Rattle.sampling.specs.Sampling.{sampleBilinear}
-use Rattle.profile.specs.declared.Peaked.{Peaked}
-use Rattle.profile.specs.declared.Peaked.the-variants.{Peak, NoPeak}
-use Rattle.profile.specs.declared.Extrapolated.{Extrapolated}
-use Rattle.profile.specs.declared.Extrapolated.the-variants.{Settled, Moved, Lost}
-use Rattle.profile.specs.Profile.{peak, extrapolate}
+use Rattle.peak.specs.declared.Peaked.{Peaked}
+use Rattle.peak.specs.declared.Peaked.the-variants.{Peak, NoPeak}
+use Rattle.peak.specs.declared.Extrapolated.{Extrapolated}
+use Rattle.peak.specs.declared.Extrapolated.the-variants.{Settled, Moved, Lost}
+use Rattle.peak.specs.Peak.{peak}
+use Rattle.peak.specs.Aitken.{extrapolate}
 use Rattle.grid.specs.Grids.{Grid}
 use Rattle.grid.specs.Probes.{probesOf}
 use Rattle.refine.specs.declared.Request.{Request}
@@ -152,7 +156,7 @@ right (c ∷ cs) = eqb (outcome (c .0) .number) (c .1 .number) && sameValues (ou
 
 pub worked : T (right cases)
 unfolding right sameValues cases outcome only ofPeak ofThree ofSample ofMap ofCrossing allDark quarters toBits
-    Floats.opened Parts.opened Root.opened Photographs.opened Sampling.opened Homography.opened Line.opened Profile.opened Grids.opened Probes.opened
+    Floats.opened Parts.opened Root.opened Photographs.opened Sampling.opened Homography.opened Line.opened Peaks.opened Aitken.opened Profile.opened Grids.opened Probes.opened
 worked = tt
 
 -- ---- the grey photograph
@@ -179,5 +183,5 @@ grey-photograph = record { bytes = replicate 16 128; stride = 4 }
 pub grey-is-thin : T (eqb (refine grey (1 ∷ 1 ∷ 1 ∷ 1 ∷ []) grey-photograph .number) 9)
 unfolding grey grey-photograph at
     Floats.opened Parts.opened Root.opened Pixels.opened Photographs.opened Sampling.opened Look.opened Homography.opened Line.opened Fit.opened
-    Profile.opened Grids.opened Probes.opened Edge.opened Rounds.opened Refine.opened
+    Peaks.opened Aitken.opened Profile.opened Grids.opened Probes.opened Edge.opened Corners.opened Rounds.opened Refine.opened
 grey-is-thin = tt

@@ -19,8 +19,9 @@ use Rattle.look.specs.Look.{Look, value, reads}
 use Rattle.grid.specs.Grids.{gridOf, goodGrid}
 use Rattle.edge.specs.declared.Plan.{Plan}
 use Rattle.edge.specs.declared.Task.{Task}
-use Rattle.rounds.specs.declared.Answer.{Answer}
-use Rattle.rounds.specs.Rounds.{refused, rounds}
+use Rattle.corners.specs.declared.Answer.{Answer}
+use Rattle.corners.specs.Corners.{refused}
+use Rattle.rounds.specs.Rounds.{rounds}
 use Rattle.refine.specs.declared.Request.{Request}
 
 -- ---- what is handed in: the code's `Request`, the modules, and a photograph

@@ -4,9 +4,9 @@ ghost use Rattle.sampling.specs.Photographs.{photo};
 ghost use Rattle.look.specs.Run.{state, sampler, Runs};
 ghost use Rattle.refine.specs.Refine.{photograph, plain, refine, refinement, sceneOf};
 use consts::Settings;
+use corners::Answer;
 use look::Meter;
 use pixel::WorkingPixel;
-use rounds::Answer;
 use rounds::Rounded;
 use sampling::View;
 
@@ -65,7 +65,7 @@ pub fn refine_corners_mapped(bytes: &[u8], stride: u32, modules: &[u8], request:
 {
     let refusal = entry::entry_number(bytes, stride, modules, request);
     if refusal != number::ANSWER {
-        return rounds::refused(refusal);
+        return corners::refused(refusal);
     }
     let mut unmarked = [0u8; 0];
     let mut uncopied = [0u8; 0];

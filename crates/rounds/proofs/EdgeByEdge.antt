@@ -18,8 +18,9 @@ use Rattle.fit.specs.declared.EdgeFit.{EdgeFit}
 use Rattle.edge.specs.declared.Plan.{Plan}
 use Rattle.edge.specs.declared.Side.{Side}
 use Rattle.edge.specs.Edge.{edge}
-use Rattle.rounds.specs.declared.Edges.{Edges}
-use Rattle.rounds.specs.Rounds.{noEdges, joined, onward, edgesFrom, sideOf}
+use Rattle.corners.specs.declared.Edges.{Edges}
+use Rattle.corners.specs.Corners.{noEdges, joined}
+use Rattle.rounds.specs.Rounds.{onward, edgesFrom, sideOf}
 
 module _ {S : Type 0} (ask : Sampler S) (plan : Plan) (ms : List ℕ) (m : PerspectiveTransform) (q : List SourcePixel) where
   abbrev from : ℕ → ℕ → Edges → Look Edges

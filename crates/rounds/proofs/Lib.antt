@@ -1,4 +1,3 @@
 -- What belongs to no one function of `rounds`.
-pub mod Crossings
 pub mod EdgeByEdge
 pub mod RoundByRound

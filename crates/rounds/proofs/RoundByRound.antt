@@ -18,9 +18,10 @@ use Rattle.look.specs.Look.{Look, done}
 use Rattle.look.specs.Run.{Sampler, Runs}
 use Rattle.look.proofs.Steps.{Leads, start, then as and-then, called, end, ended}
 use Rattle.edge.specs.declared.Plan.{Plan}
-use Rattle.rounds.specs.declared.Answer.{Answer}
-use Rattle.rounds.specs.declared.Edges.{Edges}
-use Rattle.rounds.specs.Rounds.{refused, noEdges, edgesFrom, roundEnd, mappedRound, round, isWeak, further, rounds}
+use Rattle.corners.specs.declared.Answer.{Answer}
+use Rattle.corners.specs.declared.Edges.{Edges}
+use Rattle.corners.specs.Corners.{refused, noEdges, roundEnd}
+use Rattle.rounds.specs.Rounds.{edgesFrom, mappedRound, round, isWeak, further, rounds}
 
 module _ {S : Type 0} (ask : Sampler S) (plan : Plan) (ms : List ℕ) where
   -- ---- a round

@@ -3,52 +3,23 @@ ghost use mathlib.Core.Path.{_≡_};
 ghost use Prim.Native.Nat.{_-_, _<_};
 ghost use Rattle.sampling.specs.Photographs.{photo};
 ghost use Rattle.look.specs.Run.{state, sampler, Runs};
-ghost use Rattle.line.specs.Line.{zeroLine};
+ghost use Rattle.corners.specs.Corners.{noEdges};
 ghost use Rattle.rounds.specs.Rounds.{
   edgesFrom,
   further,
   isWeak,
-  joined,
-  noEdges,
-  noStat,
-  refused as refusedBy,
   round,
   rounds,
   sideOf,
 };
+use corners::Answer;
+use corners::Edges;
 use edge::Side;
 use edge::Task;
-use fit::EdgeFit;
-use fit::EdgeStat;
 use homography::Mapped;
 use homography::PerspectiveTransform;
-use line::Line2;
 use look::Meter;
-use pixel::Direction;
 use pixel::SourcePixel;
-
-mod corners; // corners.rt: what the edges of a round come to
-
-// Four corners in source pixels, what is counted of the four edges, and which corners were refined.
-pub struct RefinedCorners {
-    pub corners: [SourcePixel; 4],
-    pub edge_stats: [EdgeStat; 4],
-    pub corner_refined: [bool; 4],
-}
-
-// What a refinement returns: a number of document 01, and the corners or zeros.
-pub struct Answer {
-    pub number: u32,
-    pub refined: RefinedCorners,
-}
-
-// The edges of a round so far, and the number of one that ended it. An edge that is not valid has the
-// zero line.
-pub struct Edges {
-    pub number: u32,
-    pub lines: [Line2; 4],
-    pub edge_stats: [EdgeStat; 4],
-}
 
 // The edges of a round, and what sampling carries along.
 pub struct EdgesRun {
@@ -62,91 +33,7 @@ pub struct Rounded {
     pub meter: Meter,
 }
 
-// ---- answers
-
-// A refusal: its number, zero corners, zero counts and flags off.
-pub fn refused(number: u32) -> Answer
-    ensures { λ r. ⌜ r ≡ refusedBy number ⌝ }
-{
-    Answer {
-        number,
-        refined: RefinedCorners {
-            corners: [SourcePixel(0.0, 0.0); 4],
-            edge_stats: [no_stat(); 4],
-            corner_refined: [false; 4],
-        },
-    }
-}
-
-// Nothing counted.
-fn no_stat() -> EdgeStat
-    ensures { λ r. ⌜ r ≡ noStat ⌝ }
-{
-    EdgeStat {
-        points_probed: 0,
-        points_fit: 0,
-        dropped_outliers: 0,
-        valid: false,
-    }
-}
-
 // ---- the edges
-
-fn zero_line() -> Line2
-    ensures { λ r. ⌜ r ≡ zeroLine ⌝ }
-{
-    Line2 {
-        centroid: SourcePixel(0.0, 0.0),
-        dir: Direction { x: 0.0, y: 0.0 },
-    }
-}
-
-impl Edges {
-    // No edge yet.
-    fn none() -> Edges
-        ensures { λ r. ⌜ r ≡ noEdges ⌝ }
-    {
-        Edges {
-            number: number::ANSWER,
-            lines: [zero_line(); 4],
-            edge_stats: [no_stat(); 4],
-        }
-    }
-
-    // Edge e put in its place.
-    fn with(self, e: usize, fit: EdgeFit) -> Edges
-        requires { ⌜ e < 4 ⌝ }
-        ensures { λ r. ⌜ r ≡ joined e self fit ⌝ }
-    {
-        let number = self.number;
-        let mut lines = self.lines;
-        let mut edge_stats = self.edge_stats;
-        match fit {
-            EdgeFit::Stops(n) => Edges {
-                number: n,
-                lines,
-                edge_stats,
-            },
-            EdgeFit::Weak(stat) => {
-                edge_stats[e] = stat;
-                Edges {
-                    number,
-                    lines,
-                    edge_stats,
-                }
-            }
-            EdgeFit::Lined(line, stat) => {
-                lines[e] = line;
-                edge_stats[e] = stat;
-                Edges {
-                    number,
-                    lines,
-                    edge_stats,
-                }
-            }
-        }
-    }
-}
 
 // The side of edge e, from its corner of q to the next.
 fn side_of(map: PerspectiveTransform, q: [SourcePixel; 4], e: usize) -> Side
@@ -212,7 +99,7 @@ fn refine_round(
 {
     match homography::quad_map(q) {
         Mapped::NoMap => Rounded {
-            answer: refused(number::QUAD),
+            answer: corners::refused(number::QUAD),
             meter,
         },
         Mapped::By(map) => {

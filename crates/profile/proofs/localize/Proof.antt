@@ -10,9 +10,10 @@ use lib.ListN.{length, length-set}
 use Rattle.sampling.specs.Photographs.{photo}
 use Rattle.look.specs.Run.{state, sampler, Runs}
 use Rattle.look.proofs.Meaning.{sheet-long, copy-long}
-use Rattle.profile.specs.declared.Located.{Located}
-use Rattle.profile.specs.declared.Located.the-variants.{NoEdge}
-use Rattle.profile.specs.Profile.{aitken, localize}
+use Rattle.peak.specs.declared.Located.{Located}
+use Rattle.peak.specs.declared.Located.the-variants.{NoEdge}
+use Rattle.peak.specs.Aitken.{aitken}
+use Rattle.profile.specs.Profile.{localize}
 use Rattle.profile.proofs.Gather.{Left, begun, went-on, broke-off, ended}
 use Rattle.profile.proofs.Passes.{Passed, none-yet, pass-broke, no-peak, pass-done, all-passed}
 use Rattle.profile.proofs.localize.Statement.{statement}

@@ -1,0 +1,2 @@
+-- What the contracts of `corners` cite.
+pub mod Corners

@@ -1,0 +1,2 @@
+-- What the contract of the square root cites.
+pub mod Root

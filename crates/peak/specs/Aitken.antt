@@ -1,0 +1,42 @@
+-- refine.rs, where the three passes of an edge point tend: their projections on the normal, Aitken's step, and the third
+-- point moved by it (398 to 415). Definitions only. `opened` is internal.
+use mathlib.Core.Bool.{not, _||_}
+use mathlib.Core.List.{List}
+use lib.ListN.{getD}
+use lib.Ieee.{Float, nan}
+use Rattle.ieee.specs.Parts.{isFinite, magnitude}
+use Rattle.ieee.specs.Floats.{if_then_else_, _⊕_, _⊖_, _⊗_, _⊘_, _≺_, f2, f1e-6}
+use Rattle.pixel.specs.Pixels.{source, edgePoint}
+use Rattle.pixel.specs.declared.SourcePixel.{SourcePixel}
+use Rattle.pixel.specs.declared.Direction.{Direction}
+use Rattle.pixel.specs.declared.EdgePoint.{EdgePoint}
+use Rattle.peak.specs.declared.Extrapolated.{Extrapolated}
+use Rattle.peak.specs.declared.Extrapolated.the-variants.{Settled, Moved, Lost}
+use Rattle.peak.specs.declared.Located.{Located}
+use Rattle.peak.specs.declared.Located.the-variants.{Found, NoEdge}
+
+-- Aitken: how far from the third of three projections they tend
+unfoldable pub extrapolate : Float → Float → Float → Float → Extrapolated
+extrapolate step x0 x1 x2 =
+    let denom = x2 ⊖ f2 ⊗ x1 ⊕ x0 in
+    let correction = (x2 ⊖ x1) ⊗ (x2 ⊖ x1) ⊘ denom in
+    if magnitude denom ≺ f1e-6 then Settled else
+    if not (isFinite correction) || (step ≺ magnitude correction) then Lost else
+    Moved ((x2 ⊖ correction) ⊖ x2)
+
+unfoldable pub projection : Direction → SourcePixel → Float
+projection normal p = p .0 ⊗ normal .x ⊕ p .1 ⊗ normal .y
+
+unfoldable pub moved : Direction → EdgePoint → Extrapolated → Located
+moved normal p Settled = Found p
+moved normal p Lost = NoEdge
+moved normal p (Moved along) = Found (edgePoint (source (p .pos .0 ⊕ normal .x ⊗ along) (p .pos .1 ⊕ normal .y ⊗ along)) (p .weight))
+
+-- the third point, moved to where the three projections tend
+unfoldable pub aitken : Direction → Float → EdgePoint → List Float → Located
+aitken normal step p xs = moved normal p (extrapolate step (getD xs 0 nan) (getD xs 1 nan) (getD xs 2 nan))
+
+-- all of the above, for a proof that computes with them: to unfold this is to unfold what its line names
+unfoldable pub opened : Unit {0}
+unfolding extrapolate projection moved aitken
+opened = tt

@@ -1,0 +1,3 @@
+-- What the contracts of `peak` cite.
+pub mod Peak
+pub mod Aitken

@@ -1,0 +1,179 @@
+// refine.rs, `localize_edge_point_pass` and `localize_edge_point` without their samples: the peak of a
+// profile, and where three passes tend.
+ghost use mathlib.Core.Path.{_≡_};
+ghost use Rattle.peak.specs.Peak.{
+  clears as clearsBy,
+  corrected as correctedAt,
+  five,
+  gradient,
+  peak as peakOf,
+  vertex as vertexOf,
+};
+ghost use Rattle.peak.specs.Aitken.{
+  aitken as aitkenOf,
+  extrapolate as extrapolated,
+  projection as projectionOf,
+};
+use consts::Settings;
+use pixel::Direction;
+use pixel::EdgePoint;
+use pixel::SourcePixel;
+
+// The peak of a profile: its offset in samples, and its weight.
+pub enum Peaked {
+    Peak(f64, f64),
+    NoPeak,
+}
+
+// What three passes come to: the third stands, or is moved along the normal, or nothing.
+pub enum Extrapolated {
+    Settled,
+    Moved(f64),
+    Lost,
+}
+
+// An edge point, or none.
+pub enum Located {
+    Found(EdgePoint),
+    NoEdge,
+}
+
+// The gradients of a profile that a peak can need.
+pub struct Gradients {
+    pub g1: f64,
+    pub g2: f64,
+    pub g3: f64,
+    pub g4: f64,
+    pub g5: f64,
+}
+
+// ---- gradients
+
+// The central differences of seven samples.
+fn gradients_of(s: [f64; 7]) -> Gradients
+    ensures { λ r. ⌜ r ≡ five (gradient s) ⌝ }
+{
+    Gradients {
+        g1: s[2] - s[0],
+        g2: s[3] - s[1],
+        g3: s[4] - s[2],
+        g4: s[5] - s[3],
+        g5: s[6] - s[4],
+    }
+}
+
+// The gradients of a profile, unfolded by stride 2, one module, where the inward neighbour is light. Those
+// at both ends are 0, and the last one takes part.
+fn corrected(s: [f64; 7], inward_differs: bool) -> Gradients
+    ensures { λ r. ⌜ r ≡ five (correctedAt «inward_differs» s) ⌝ }
+{
+    let g = gradients_of(s);
+    if inward_differs {
+        return Gradients {
+            g1: 0.0 + g.g1 + g.g3 + g.g5,
+            g2: 0.0 + g.g2 + g.g4 + 0.0,
+            g3: 0.0 + g.g3 + g.g5,
+            g4: 0.0 + g.g4 + 0.0,
+            g5: 0.0 + g.g5,
+        };
+    }
+    g
+}
+
+// ---- the peak
+
+// Whether a gradient has the sign that the polarity gives an edge, and is not below the contrast
+// floor.
+fn clears(settings: Settings, inverted: bool, g: f64) -> bool
+    ensures { λ r. ⌜ r ≡ clearsBy settings inverted g ⌝ }
+{
+    let floor = settings.contrast_floor as f64;
+    if inverted {
+        return g * -1.0 >= floor;
+    }
+    g * 1.0 >= floor
+}
+
+// The vertex of the parabola through three gradients, the middle one at i.
+fn vertex(gm1: f64, g0: f64, gp1: f64, i: u32) -> Peaked
+    ensures { λ r. ⌜ r ≡ vertexOf gm1 g0 gp1 i ⌝ }
+{
+    let denom = gm1 - 2.0 * g0 + gp1;
+    if ieee::abs(denom) < 1e-9 {
+        return Peaked::NoPeak;
+    }
+    let delta = 0.5 * (gm1 - gp1) / denom;
+    if !ieee::is_finite(delta) {
+        return Peaked::NoPeak;
+    }
+    if ieee::abs(delta) > 1.0 {
+        return Peaked::NoPeak;
+    }
+    Peaked::Peak((i as f64 - 3.0) + delta, ieee::abs(g0))
+}
+
+// The peak of a profile, of the gradients that clear: 3 first, then of 2 and 4 the one of larger
+// magnitude, then 2.
+pub fn find_peak(settings: Settings, inverted: bool, inward_differs: bool, s: [f64; 7]) -> Peaked
+    ensures { λ r. ⌜ r ≡ peakOf settings inverted «inward_differs» s ⌝ }
+{
+    let g = corrected(s, inward_differs);
+    if clears(settings, inverted, g.g3) {
+        return vertex(g.g2, g.g3, g.g4, 3);
+    }
+    if clears(settings, inverted, g.g2) {
+        if !clears(settings, inverted, g.g4) {
+            return vertex(g.g1, g.g2, g.g3, 2);
+        }
+        if ieee::abs(g.g2) < ieee::abs(g.g4) {
+            return vertex(g.g3, g.g4, g.g5, 4);
+        }
+        return vertex(g.g1, g.g2, g.g3, 2);
+    }
+    if clears(settings, inverted, g.g4) {
+        return vertex(g.g3, g.g4, g.g5, 4);
+    }
+    Peaked::NoPeak
+}
+
+// ---- where three passes tend
+
+// Aitken: how far from the third of three projections they tend.
+fn extrapolate(step: f64, x0: f64, x1: f64, x2: f64) -> Extrapolated
+    ensures { λ r. ⌜ r ≡ extrapolated step x0 x1 x2 ⌝ }
+{
+    let denom = x2 - 2.0 * x1 + x0;
+    if ieee::abs(denom) < 1e-6 {
+        return Extrapolated::Settled;
+    }
+    let correction = (x2 - x1) * (x2 - x1) / denom;
+    if !ieee::is_finite(correction) {
+        return Extrapolated::Lost;
+    }
+    if ieee::abs(correction) > step {
+        return Extrapolated::Lost;
+    }
+    Extrapolated::Moved((x2 - correction) - x2)
+}
+
+// How far along the normal a place lies.
+pub fn projection(normal: Direction, p: SourcePixel) -> f64
+    ensures { λ r. ⌜ r ≡ projectionOf normal p ⌝ }
+{
+    p.0 * normal.x + p.1 * normal.y
+}
+
+// The third of three points, moved to where their projections tend, or none where those tend to nothing near.
+pub fn aitken(normal: Direction, step: f64, p: EdgePoint, xs: [f64; 3]) -> Located
+    ensures { λ r. ⌜ r ≡ aitkenOf normal step p xs ⌝ }
+{
+    let limit = extrapolate(step, xs[0], xs[1], xs[2]);
+    match limit {
+        Extrapolated::Settled => Located::Found(p),
+        Extrapolated::Moved(along) => Located::Found(EdgePoint {
+            pos: SourcePixel(p.pos.0 + normal.x * along, p.pos.1 + normal.y * along),
+            weight: p.weight,
+        }),
+        Extrapolated::Lost => Located::NoEdge,
+    }
+}
