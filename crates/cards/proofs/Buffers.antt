@@ -6,12 +6,12 @@ use mathlib.Core.Path.{_≡_, sym, ap, _∙_}
 use mathlib.Core.List.{List, _++_}
 use borrow.Author.Tests.{le-leb, lt-leb, eq-eqb, ne-eqb}
 use lib.ListN.{length, drop}
+use Rattle.ieee.proofs.Branches.{by-test}
 use Rattle.rounds.specs.declared.Answer.{Answer}
 use Rattle.rounds.specs.Rounds.{refused}
 use Rattle.number.specs.Numbers as number
 use Rattle.cards.specs.JobCard.{goodCard, jobAnswer}
 use Rattle.cards.specs.ResultCard.{resultCard, runNumber, runLeaves}
-use Rattle.cards.proofs.Parts.{by-test}
 
 malformed : (card : List ℕ) → goodCard card ≡ false → jobAnswer card .number ≡ number.card
 unfolding jobAnswer refused

@@ -1,7 +1,7 @@
 -- What the field finder hands back. In a well formed card the fields 1 to 6 are there, and 7 and 8 exactly where it has eight: a card that ends
 -- behind field 6 has no room for the header of a seventh. Assumes nothing.
 use Prim.Native.Nat.{ℕ, _-_, _≤_}
-use mathlib.Core.Bool.{Bool, true, false, _&&_, _||_, or-true, or-false}
+use mathlib.Core.Bool.{true, false, _&&_, _||_, or-true, or-false}
 use mathlib.Core.Path.{_≡_, refl}
 use mathlib.Core.List.{List, []}
 use native.Mathlib.Omega.{arith}
@@ -9,6 +9,7 @@ use borrow.Author.Tests.{le-leb, leb-true, leb-false, eqb-true}
 use lib.Dec.{leb, eqb}
 use lib.ListN.{length}
 use Rattle.ieee.specs.Floats.{if_then_else_}
+use Rattle.ieee.proofs.Branches.{by-test}
 use Rattle.number.specs.Numbers as number
 use Rattle.camera.proofs.Tests.{both}
 use Rattle.cards.specs.JobCard.{startAt, contents, hasFields, isWhole, goodCard, fieldNumber, fieldPart}
@@ -17,10 +18,6 @@ use Rattle.cards.proofs.Walks.{fewer, broken, no-header}
 pub not-found : (card : List ℕ) (t : ℕ) → (leb 1 t && leb t 8 && goodCard card) ≡ false → ([] ≡ fieldPart card t) × (number.card ≡ fieldNumber card t)
 unfolding fieldPart fieldNumber
 not-found card t none = (rw none, rw none)
-
-pub by-test : {A : Type 0} (b : Bool) → (b ≡ true → A) → (b ≡ false → A) → A
-by-test true f g = f refl
-by-test false f g = g refl
 
 whole : (card : List ℕ) (n : ℕ) → isWhole card n ≡ true → (hasFields card n ≡ true) × (startAt card n ≡ length card)
 unfolding isWhole

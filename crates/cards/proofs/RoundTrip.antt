@@ -13,15 +13,18 @@ use lib.Ieee.{Float, binary64, fits, ofBits, toBits}
 use lib.Ieee.Bits.{ofBits-toBits, toBits-lt}
 use Rattle.pixel.specs.Pixels.{source}
 use Rattle.pixel.specs.declared.SourcePixel.{SourcePixel}
+use Rattle.pixel.proofs.Values.{Fits}
 use Rattle.fit.specs.declared.EdgeStat.{EdgeStat}
 use Rattle.fit.specs.Fit.{stat}
+use Rattle.fit.proofs.Counts.{Counted}
 use Rattle.look.specs.Sheets.{bit}
 use Rattle.rounds.specs.declared.RefinedCorners.{RefinedCorners}
+use Rattle.rounds.proofs.Fours.{Four, JustFour, four-of}
 use Rattle.number.specs.Numbers as number
 use Rattle.cards.specs.Fields.{byteAt, numberAt, floatAt, bytesOf, floatBytes, field}
 use Rattle.cards.specs.JobCard.{jobAnswer}
 use Rattle.cards.specs.ResultCard.{cornerBytes, statBytes, flagBytes, resultCard, readCorner, readStat, readFlag, readResult, runNumber, runLeaves}
-use Rattle.cards.proofs.Answers.{Four, four-of, Fits, Below, job-sound}
+use Rattle.cards.proofs.Answers.{job-sound}
 
 -- ---- a number, from its bytes
 
@@ -54,8 +57,12 @@ flag-back : (b : Bool) → eqb (bit b) 1 ≡ b
 flag-back true = refl
 flag-back false = refl
 
-stat-back : (c : EdgeStat) → Below c → stat (c .«points_probed» % 256) (c .«points_fit» % 256) (c .«dropped_outliers» % 256) (eqb (bit (c .valid)) 1) ≡ c
-stat-back c h = rw (mod-eq-of-lt (h .probed), mod-eq-of-lt (h .fit), mod-eq-of-lt (h .dropped), flag-back (c .valid))
+stat-back : (c : EdgeStat) → Counted 255 c → stat (c .«points_probed» % 256) (c .«points_fit» % 256) (c .«dropped_outliers» % 256) (eqb (bit (c .valid)) 1) ≡ c
+stat-back c h =
+    let probed : c .«points_probed» < 256 = omega arith in
+    let fit : c .«points_fit» < 256 = omega arith in
+    let dropped : c .«dropped_outliers» < 256 = omega arith in
+    rw (mod-eq-of-lt probed, mod-eq-of-lt fit, mod-eq-of-lt dropped, flag-back (c .valid))
 
 same-four : {A : Type 0} {a b c d a′ b′ c′ d′ : A} → a ≡ a′ → b ≡ b′ → c ≡ c′ → d ≡ d′ → (a ∷ b ∷ c ∷ d ∷ []) ≡ (a′ ∷ b′ ∷ c′ ∷ d′ ∷ [])
 same-four p q r s = cc
@@ -69,7 +76,7 @@ same-refined p q r = cc
 -- ---- the card
 
 -- whatever stands behind it
-read-back : (cs : List SourcePixel) (es : List EdgeStat) (fs : List Bool) (tail : List ℕ) → Four Fits cs → Four Below es → Four (λ (_ : Bool). Unit {0}) fs
+read-back : (cs : List SourcePixel) (es : List EdgeStat) (fs : List Bool) (tail : List ℕ) → Four Fits cs → Four (Counted 255) es → JustFour fs
     → readResult (resultCard (refinedOf cs es fs) ++ tail) ≡ refinedOf cs es fs
 unfolding numberAt floatAt bytesOf floatBytes field cornerBytes statBytes flagBytes resultCard readCorner readStat readFlag readResult
 read-back _ _ _ tail (four-of {a} {b} {c} {d} ha hb hc hd) (four-of {a = k} {b = l} {c = m} {d = n} hk hl hm hn) (four-of {a = w} {b = x} {c = y} {d = z} _ _ _ _) =

@@ -6,6 +6,7 @@ pub mod WholeExact
 -- the definitions at some values
 pub mod Examples
 -- patterns and tests
+pub mod Branches
 pub mod Patterns
 pub mod Inputs
 pub mod Order

@@ -2,3 +2,5 @@
 pub mod Crossings
 pub mod EdgeByEdge
 pub mod RoundByRound
+pub mod Fours
+pub mod Answers
