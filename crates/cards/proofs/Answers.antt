@@ -8,7 +8,9 @@ use Rattle.grid.proofs.Counts.{limit-in-room}
 use Rattle.rounds.proofs.Fours.{four-of}
 use Rattle.rounds.proofs.Answers.{Sound, refused-sound}
 use Rattle.refine.proofs.Answers.{refine-sound}
-use Rattle.cards.specs.JobCard.{goodCard, cornersOf, requestFrom, requestOf, modulesOf, photographOf, jobAnswer}
+use Rattle.job_card.specs.JobCard.{goodCard}
+use Rattle.job.specs.Job.{cornersOf, requestFrom, requestOf, modulesOf, photographOf}
+use Rattle.cards.specs.Run.{jobAnswer}
 
 pub job-sound : (card : List ℕ) → Sound 255 (jobAnswer card)
 unfolding jobAnswer requestOf requestFrom cornersOf
