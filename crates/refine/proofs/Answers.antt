@@ -1,5 +1,5 @@
--- What every answer of a refinement is like, refused or not: it is sound (rounds/proofs/Answers) for any n that the settings' limit of probes keeps
--- below, since the rounds start from four corners that the division made. Assumes nothing.
+-- What every answer of a refinement is like, refused or not: it is sound (rounds/proofs/Answers) for any n that is no less
+-- than the settings' limit of probes, since the rounds start from four corners that the division made. Assumes nothing.
 use Prim.Native.Nat.{ℕ, _≤_}
 use mathlib.Core.List.{List, map}
 use lib.Dec.{eqb}
