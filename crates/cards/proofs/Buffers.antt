@@ -3,15 +3,16 @@
 use Prim.Native.Nat.{ℕ, _≤_, _<_}
 use mathlib.Core.Bool.{false, and-false}
 use mathlib.Core.Path.{_≡_, sym, ap, _∙_}
-use mathlib.Core.List.{List, _++_}
+use mathlib.Core.List.{List}
 use borrow.Author.Tests.{le-leb, lt-leb, eq-eqb, ne-eqb}
-use lib.ListN.{length, drop}
+use lib.ListN.{length}
+use Rattle.ieee.proofs.Branches.{by-test}
 use Rattle.corners.specs.declared.Answer.{Answer}
 use Rattle.corners.specs.Corners.{refused}
 use Rattle.number.specs.Numbers as number
-use Rattle.cards.specs.JobCard.{goodCard, jobAnswer}
-use Rattle.cards.specs.ResultCard.{resultCard, runNumber, runLeaves}
-use Rattle.cards.proofs.Parts.{by-test}
+use Rattle.job_card.specs.JobCard.{goodCard}
+use Rattle.result_card.specs.ResultCard.{withCard}
+use Rattle.cards.specs.Run.{jobAnswer, runNumber, runLeaves}
 
 malformed : (card : List ℕ) → goodCard card ≡ false → jobAnswer card .number ≡ number.card
 unfolding jobAnswer refused
@@ -33,7 +34,8 @@ module _ (card out : List ℕ) where
     unfolding runLeaves
     refused-run other = (job-number, rw (← job-number, ne-eqb (a .number) number.answer other))
 
-    pub answered-run : (left : List ℕ) → a .number ≡ number.answer → left ≡ resultCard (a .refined) ++ drop 93 out
+    pub answered-run : (left : List ℕ) → a .number ≡ number.answer → left ≡ withCard (a .refined) out
         → (number.answer ≡ runNumber card out) × (left ≡ runLeaves card out)
-    unfolding runLeaves
-    answered-run left zero wrote = (sym zero ∙ job-number, rw (← job-number, eq-eqb (a .number) number.answer zero, ← is) wrote)
+    unfolding runLeaves withCard
+    answered-run left zero wrote =
+        (sym zero ∙ job-number, rw (← job-number, eq-eqb (a .number) number.answer zero, ← is) (rw (le-leb 93 (length out) room) at wrote))

@@ -1,9 +1,6 @@
--- What the proofs of several functions cite, and the theorems.
-pub mod Bytes
-pub mod Walks
-pub mod Parts
+-- What the proofs of `cards` cite.
 pub mod Marked
-pub mod Writes
 pub mod Buffers
+-- theorems to be read alone
 pub mod Answers
 pub mod RoundTrip

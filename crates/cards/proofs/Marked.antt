@@ -9,8 +9,9 @@ use Rattle.corners.specs.Corners.{refused}
 use Rattle.refine.specs.declared.Request.{Request}
 use Rattle.refine.specs.Refine.{photograph}
 use Rattle.marking.specs.Marking.{Marks}
-use Rattle.cards.specs.JobCard.{goodCard, fieldPart, requestOf, modulesOf, strideOf}
-use Rattle.cards.specs.JobMarking.{jobMarking, jobSheet, jobCopy, JobMarks}
+use Rattle.job_card.specs.JobCard.{goodCard, fieldPart}
+use Rattle.job.specs.Job.{requestOf, modulesOf, strideOf}
+use Rattle.cards.specs.RunMarking.{jobMarking, jobSheet, jobCopy, JobMarks}
 
 module _ (card : List ℕ) (a : Answer) (s c : List ℕ) where
   pub malformed-marks : goodCard card ≡ false → a ≡ refused number.card → JobMarks card a s s c c

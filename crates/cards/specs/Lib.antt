@@ -1,5 +1,3 @@
 -- What the contracts of `cards` cite.
-pub mod Fields
-pub mod JobCard
-pub mod JobMarking
-pub mod ResultCard
+pub mod Run
+pub mod RunMarking

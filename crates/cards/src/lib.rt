@@ -1,12 +1,7 @@
-// Job cards and result cards: fields of a tag byte, a two-byte length and contents, little-endian.
-mod fields; // fields.rt: numbers and floats in bytes
-mod job; // job.rt: what a job card asks for, and a card run
-mod job_card; // job_card.rt: the fields of a job card
-mod job_marking; // job_marking.rt: a job card, run by the marking call
-mod result_card; // result_card.rt: the result card
+// Job cards run: what a card asks for is refined, and the answer is handed back or written as a result card.
+mod run; // run.rt: a job card run, and its result card
+mod run_marking; // run_marking.rt: a job card, run by the marking call
 
-pub use job::run_card;
-pub use job::run_job;
-pub use job_card::find_field;
-pub use job_marking::run_job_marking;
-pub use result_card::RESULT_SIZE;
+pub use run::run_card;
+pub use run::run_job;
+pub use run_marking::run_job_marking;

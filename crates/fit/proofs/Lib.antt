@@ -8,3 +8,5 @@ pub mod Lists
 pub mod Sorting
 pub mod Keeping
 pub mod Points
+-- what the crates above cite
+pub mod Counts

@@ -3,3 +3,5 @@ pub mod Modules
 pub mod Sides
 pub mod Candidates
 pub mod Thinning
+-- what the crates above cite
+pub mod Counts

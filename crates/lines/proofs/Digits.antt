@@ -8,7 +8,7 @@ use native.Mathlib.Nat.{mod-eq-of-lt, div-lt-iff-lt-mul, le-div-iff-mul-le, pow-
 use borrow.Author.Tests.{lt-ltb, le-ltb, leb-true, leb-false}
 use lib.Dec.{leb}
 use Rattle.io.specs.Digits.{glyph, digits, Fewest}
-use Rattle.cards.proofs.Parts.{by-test}
+use Rattle.ieee.proofs.Branches.{by-test}
 use Rattle.lines.specs.Lines.{decimalTo, decimal, hexadecimal}
 
 -- ---- decimal

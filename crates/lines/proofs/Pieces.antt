@@ -6,7 +6,7 @@ use native.Mathlib.Omega.{arith}
 use lib.ListN.{length, length-append}
 use lib.Seq.{length-take-le}
 use Rattle.io.specs.Counts.{Counts}
-use Rattle.cards.proofs.Writes.{Row, sets-append}
+use Rattle.fields.proofs.Writes.{Row, sets-append}
 use Rattle.lines.specs.Puts.{Puts}
 
 pub then : {a b c : List ℕ} {at n m : ℕ} {s t : List ℕ} → Puts a at s b n → Puts b n t c m → Puts a at (s ++ t) c m

@@ -3,13 +3,7 @@
 ghost use mathlib.Core.Path.{_≡_};
 ghost use Rattle.sampling.specs.Photographs.{photo};
 ghost use Rattle.look.specs.Run.{state, sampler, Runs};
-ghost use Rattle.profile.specs.Profile.{
-  localize as localized,
-  localizeEdgePoint,
-  noPoint,
-  stepped as steppedTo,
-  viewNumber,
-};
+ghost use Rattle.profile.specs.Profile.{localize as localized, localizeEdgePoint, noPoint, stepped as steppedTo, viewNumber};
 use consts::Settings;
 use look::Meter;
 use peak::Located;

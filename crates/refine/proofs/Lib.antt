@@ -3,3 +3,4 @@ pub mod Worked
 pub mod Checks
 pub mod Corners
 pub mod Calls
+pub mod Answers

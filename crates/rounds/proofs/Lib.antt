@@ -1,3 +1,5 @@
 -- What belongs to no one function of `rounds`.
 pub mod EdgeByEdge
 pub mod RoundByRound
+pub mod Fours
+pub mod Answers

@@ -4,14 +4,7 @@ ghost use Prim.Native.Nat.{_-_, _<_};
 ghost use Rattle.sampling.specs.Photographs.{photo};
 ghost use Rattle.look.specs.Run.{state, sampler, Runs};
 ghost use Rattle.corners.specs.Corners.{noEdges};
-ghost use Rattle.rounds.specs.Rounds.{
-  edgesFrom,
-  further,
-  isWeak,
-  round,
-  rounds,
-  sideOf,
-};
+ghost use Rattle.rounds.specs.Rounds.{edgesFrom, further, isWeak, round, rounds, sideOf};
 use corners::Answer;
 use corners::Edges;
 use edge::Side;

@@ -5,7 +5,7 @@ use mathlib.Core.List.{List}
 use native.Mathlib.Omega.{arith}
 use borrow.Author.Needs.{needs}
 use lib.ListN.{length}
-use Rattle.cards.proofs.Writes.{RowTo, row-none, row-more, row-all}
+use Rattle.fields.proofs.Writes.{RowTo, row-none, row-more, row-all}
 use Rattle.lines.proofs.Pieces.{byte-row}
 use Rattle.lines.proofs.put_text.Statement.{statement}
 use Rattle.lines.proofs.put_text.Tie as tie

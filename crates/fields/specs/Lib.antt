@@ -1,0 +1,2 @@
+-- What the contracts of `fields` cite.
+pub mod Fields

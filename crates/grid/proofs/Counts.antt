@@ -1,0 +1,31 @@
+-- How many probes an edge has: no more than the settings allow, nor than an array has room for. Candidates beyond that are thinned, and what is
+-- thinned is cut at the limit. Assumes nothing.
+use Prim.Native.Nat.{ℕ, _≤_, min}
+use mathlib.Core.List.{List}
+use native.Mathlib.Nat.{min-le-left, min-le-right}
+use borrow.Author.Tests.{ltb-false}
+use lib.Dec.{ltb}
+use lib.ListN.{length, length-take}
+use Rattle.ieee.proofs.Branches.{by-test}
+use Rattle.consts.specs.Consts.{room}
+use Rattle.consts.specs.declared.Settings.{Settings}
+use Rattle.grid.specs.declared.Probe.{Probe}
+use Rattle.grid.specs.Grids.{Grid}
+use Rattle.grid.specs.Probes.{thinned, probesOf}
+
+few-thinned : (most : ℕ) (ps : List Probe) → length (thinned most ps) ≤ most
+unfolding thinned
+few-thinned most ps = by-test (ltb most (length ps))
+    (λ more. rw (more, length-take) (min-le-left most _))
+    (λ enough. rw enough (ltb-false most (length ps) enough))
+
+-- the most probes that an edge can have
+abbrev pub probeLimit : Settings → ℕ
+probeLimit s = min (s .«max_points_per_edge») room
+
+pub limit-in-room : (s : Settings) → probeLimit s ≤ room
+limit-in-room s = min-le-right (s .«max_points_per_edge») room
+
+pub few-probes : (s : Settings) (g : Grid) (e : ℕ) → length (probesOf s g e) ≤ probeLimit s
+unfolding probesOf
+few-probes s g e = few-thinned _ _

@@ -1,0 +1,3 @@
+-- What the proofs of several functions of `job_card` cite.
+pub mod Walks
+pub mod Parts

@@ -1,0 +1,2 @@
+-- What the contracts of `job_card` cite.
+pub mod JobCard

@@ -1,0 +1,2 @@
+-- What the contracts of `result_card` cite.
+pub mod ResultCard
