@@ -1,5 +1,5 @@
-//! The port's calls for programs in Rust: safe functions over `trufolmesca.h`. Put this file in as a module, and link
-//! `target/staticlib/libexport.a`.
+//! The port's calls for programs in Rust: safe functions over `trufolmesca.h`. Put this file in as a
+//! module, and link `target/staticlib/libexport.a`.
 //!
 //! Every call gives its number, 0 for an answer, and its values; a refusal's are zeros.
 
@@ -238,7 +238,10 @@ pub struct Edge {
     pub valid: bool,
 }
 
-/// What a refinement comes to: its number, and corners in source pixels, edges and flags, or zeros.
+/// What a refinement comes to: its number, and corners, edges and flags, or zeros. The corners are in
+/// source pixels, which are the photograph's; through a camera they are in rectified pixels, those of
+/// the picture that the camera rectifies to, and `rectified_to_source` gives where each lies in the
+/// photograph.
 #[derive(Clone, Copy, Debug, PartialEq)]
 pub struct Answer {
     pub number: u32,
@@ -247,7 +250,8 @@ pub struct Answer {
     pub refined: [bool; 4],
 }
 
-/// Refine a label's corners, given in working pixels, of which there are `scale` for each source pixel along either axis.
+/// Refine a label's corners, given in working pixels, of which there are `scale` for each source
+/// pixel, or with a camera for each rectified pixel, along either axis.
 pub fn refine_corners(
     p: Photograph,
     grid: Grid,
@@ -312,9 +316,10 @@ pub fn refine_corners(
     answer(number, &places, &counts)
 }
 
-/// The same, marked: the sheet is 1 at each pixel that was read, and the copy is the photograph with 0 at all others, both in rows of
-/// `width` bytes. With less than `width` × `height` bytes it is 7. Refused by 1 to 7 it leaves both; otherwise, refused or not, it
-/// writes their first `width` × `height` bytes.
+/// The same, marked: the sheet is 1 at each pixel of the photograph that was read, and the copy is the
+/// photograph with 0 at all others, both in rows of `width` bytes. With less than `width` × `height`
+/// bytes it is 7. Refused by 1 to 7 it leaves both; otherwise, refused or not, it writes their first
+/// `width` × `height` bytes.
 pub fn refine_corners_marking(
     p: Photograph,
     grid: Grid,
@@ -438,6 +443,7 @@ pub fn sample_bilinear(p: Photograph, x: f64, y: f64, border: Border) -> (u32, [
     (n, v)
 }
 
+/// Where a rectified place lies in the photograph: a corner that was refined through this camera.
 pub fn rectified_to_source(camera: &Camera, x: f64, y: f64) -> (u32, [f64; 2]) {
     let (numbers, lens) = camera.numbers();
     let mut v = [f64::NAN; 2];
@@ -516,7 +522,7 @@ pub struct Aim {
     pub inward_differs: bool,
 }
 
-/// x, y and weight of an edge point.
+/// x, y and weight of an edge point. With a camera the place, like the aim, is in rectified pixels.
 pub fn localize_edge_point(p: Photograph, camera: Option<&Camera>, a: &Aim) -> (u32, [f64; 3]) {
     let mut v = [f64::NAN; 3];
     let n = match camera {

@@ -7,15 +7,15 @@ use Rattle.corners.specs.declared.Answer.{Answer}
 use Rattle.refine.specs.declared.Request.{Request}
 use Rattle.refine.specs.Refine.{Photograph}
 use Rattle.marking.specs.Marking.{Marks}
-use Rattle.lent.specs.Answers.{Written}
+use Rattle.answers.specs.Answers.{Written}
 use Rattle.export.specs.Calls.{WrittenMarked}
 
 -- what is written of an answer is written of its equal
-pub written-as : {a b : Answer} {n : ℕ} {p p′ : List Float} {c c′ : List ℕ} → a ≡ b → Written a n p p′ c c′ → Written b n p p′ c c′
-written-as {n = n} {p = p} {p′ = p′} {c = c} {c′ = c′} e w = subst (λ (x : Answer). Written x n p p′ c c′) e w
+pub written-as : {a b : Answer} {n : ℕ} {ps ps′ : List Float} {ns ns′ : List ℕ} → a ≡ b → Written a n ps ps′ ns ns′ → Written b n ps ps′ ns ns′
+written-as {n = n} {ps = ps} {ps′ = ps′} {ns = ns} {ns′ = ns′} e w = subst (λ (x : Answer). Written x n ps ps′ ns ns′) e w
 
 -- what a marking call leaves, with its answer written, is what is promised of an equal request
-pub marked-as : {q r : Request} {ms : List ℕ} {f : Photograph} {a : Answer} {n : ℕ} {p p′ : List Float} {c c′ s s′ k k′ : List ℕ}
-    → q ≡ r → Marks q ms f a s s′ k k′ → Written a n p p′ c c′ → WrittenMarked r ms f n p p′ c c′ s s′ k k′
-marked-as {ms = ms} {f = f} {n = n} {p = p} {p′ = p′} {c = c} {c′ = c′} {s = s} {s′ = s′} {k = k} {k′ = k′} e m w =
-    subst (λ (r : Request). WrittenMarked r ms f n p p′ c c′ s s′ k k′) e record { answer = written-as (m .answer) w; sheet = m .sheet; copy = m .copy }
+pub marked-as : {q r : Request} {ms : List ℕ} {f : Photograph} {a : Answer} {n : ℕ} {ps ps′ : List Float} {ns ns′ s s′ c c′ : List ℕ}
+    → q ≡ r → Marks q ms f a s s′ c c′ → Written a n ps ps′ ns ns′ → WrittenMarked r ms f n ps ps′ ns ns′ s s′ c c′
+marked-as {ms = ms} {f = f} {n = n} {ps = ps} {ps′ = ps′} {ns = ns} {ns′ = ns′} {s = s} {s′ = s′} {c = c} {c′ = c′} e m w =
+    subst (λ (r : Request). WrittenMarked r ms f n ps ps′ ns ns′ s s′ c c′) e record { answer = written-as (m .answer) w; sheet = m .sheet; copy = m .copy }

@@ -1,7 +1,7 @@
 // The refinement calls over the photograph seen through a camera.
 ghost use Rattle.refine.specs.Refine.{photograph, refine};
 ghost use Rattle.lent.specs.Lent.{viewOf};
-ghost use Rattle.lent.specs.Answers.{Written};
+ghost use Rattle.answers.specs.Answers.{Written};
 ghost use Rattle.export.specs.Calls.{lentRequest, WrittenMarked};
 
 #[no_mangle]
@@ -28,7 +28,7 @@ pub extern "C" fn trufolmesca_refine_corners_mapped(
     let view = lent::view_of(camera, lens);
     let request = crate::calls::request_of(width, height, dim, sx, sy, corners, inverted, view);
     let a = refine::refine_corners_mapped(bytes, stride, modules, request);
-    lent::put_answer(a, places, counts)
+    answers::put_answer(a, places, counts)
 }
 
 // Marked: sheet and copy are lent width × height bytes or more, in rows of width bytes.
@@ -59,5 +59,5 @@ pub extern "C" fn trufolmesca_refine_corners_mapped_marking(
     let view = lent::view_of(camera, lens);
     let request = crate::calls::request_of(width, height, dim, sx, sy, corners, inverted, view);
     let a = marking::refine_corners_mapped_marking(bytes, stride, modules, request, sheet, copy);
-    lent::put_answer(a, places, counts)
+    answers::put_answer(a, places, counts)
 }

@@ -1,3 +1,2 @@
 -- What the contracts of `lent` cite.
 pub mod Lent
-pub mod Answers

@@ -1,27 +1,18 @@
-// What the calls for C and Rust are lent: reading numbers from lists, and writing answers into buffers. bindings/trufolmesca.h says
-// what each list holds.
+// What the calls for C and Rust read of the lists that they are lent. bindings/trufolmesca.h says what each list holds.
 ghost use mathlib.Core.Path.{_≡_};
-ghost use lib.ListN.{set};
-ghost use Rattle.lent.specs.Lent.{floatAt, quadOf, mapOf, lineOf, sourceIntrinsics, rectifiedIntrinsics, lensOf, cameraOf, viewOf, borderOf, withPlace, withPlaceAt, withPoint, withLine, withRow, withMap};
+ghost use Rattle.lent.specs.Lent.{floatAt, quadOf, workingOf, mapOf, lineOf, sourceIntrinsics, rectifiedIntrinsics, lensOf, cameraOf, viewOf, borderOf};
 use camera::CameraCalibration;
 use camera::CameraIntrinsics;
 use camera::LensDistortion;
 use homography::PerspectiveTransform;
 use line::Line2;
 use pixel::Direction;
-use pixel::EdgePoint;
 use pixel::SourcePixel;
+use pixel::WorkingPixel;
 use sampling::BorderMode;
 use sampling::View;
 
-mod answers; // answers.rt: the refinement's corners, and its answer
-
-pub use answers::put_answer;
-pub use answers::working_of;
-
-// ---- reading
-
-// A number of a list; past its end a NaN, which every check refuses.
+// The number at an index of a list; past the list's end a NaN, which a call treats as any other NaN.
 pub fn float_at(s: &[f64], i: usize) -> f64
     ensures { λ r. ⌜ r ≡ floatAt (now (s .entry)) i ⌝ }
 {
@@ -31,6 +22,7 @@ pub fn float_at(s: &[f64], i: usize) -> f64
     0.0 / 0.0
 }
 
+// Four corners in source pixels, from x0, y0 to x3, y3.
 pub fn quad_of(s: &[f64]) -> [SourcePixel; 4]
     ensures { λ r. ⌜ r ≡ quadOf (now (s .entry)) ⌝ }
 {
@@ -42,6 +34,19 @@ pub fn quad_of(s: &[f64]) -> [SourcePixel; 4]
     ]
 }
 
+// Four corners in working pixels, from x0, y0 to x3, y3.
+pub fn working_of(s: &[f64]) -> [WorkingPixel; 4]
+    ensures { λ r. ⌜ r ≡ workingOf (now (s .entry)) ⌝ }
+{
+    [
+        WorkingPixel(float_at(s, 0), float_at(s, 1)),
+        WorkingPixel(float_at(s, 2), float_at(s, 3)),
+        WorkingPixel(float_at(s, 4), float_at(s, 5)),
+        WorkingPixel(float_at(s, 6), float_at(s, 7)),
+    ]
+}
+
+// A map, from its nine numbers row by row: a11, a21, a31 first.
 pub fn map_of(s: &[f64]) -> PerspectiveTransform
     ensures { λ r. ⌜ r ≡ mapOf (now (s .entry)) ⌝ }
 {
@@ -58,6 +63,7 @@ pub fn map_of(s: &[f64]) -> PerspectiveTransform
     }
 }
 
+// A line, from its centroid and its direction.
 pub fn line_of(s: &[f64]) -> Line2
     ensures { λ r. ⌜ r ≡ lineOf (now (s .entry)) ⌝ }
 {
@@ -70,6 +76,7 @@ pub fn line_of(s: &[f64]) -> Line2
     }
 }
 
+// The photograph's fx, fy, cx and cy, which begin a camera's list.
 fn source_intrinsics(s: &[f64]) -> CameraIntrinsics
     ensures { λ r. ⌜ r ≡ sourceIntrinsics (now (s .entry)) ⌝ }
 {
@@ -81,6 +88,7 @@ fn source_intrinsics(s: &[f64]) -> CameraIntrinsics
     }
 }
 
+// The rectified picture's fx, fy, cx and cy, which stand behind the photograph's in a camera's list.
 fn rectified_intrinsics(s: &[f64]) -> CameraIntrinsics
     ensures { λ r. ⌜ r ≡ rectifiedIntrinsics (now (s .entry)) ⌝ }
 {
@@ -92,6 +100,7 @@ fn rectified_intrinsics(s: &[f64]) -> CameraIntrinsics
     }
 }
 
+// The lens at the end of a camera's list, or none where the call says so.
 fn lens_of(s: &[f64], lens: bool) -> LensDistortion
     ensures { λ r. ⌜ r ≡ lensOf (now (s .entry)) lens ⌝ }
 {
@@ -107,6 +116,7 @@ fn lens_of(s: &[f64], lens: bool) -> LensDistortion
     LensDistortion::None
 }
 
+// A camera, from its list and whether it has a lens.
 pub fn camera_of(s: &[f64], lens: bool) -> CameraCalibration
     ensures { λ r. ⌜ r ≡ cameraOf (now (s .entry)) lens ⌝ }
 {
@@ -120,12 +130,14 @@ pub fn camera_of(s: &[f64], lens: bool) -> CameraCalibration
     }
 }
 
+// The photograph seen through the camera of a list.
 pub fn view_of(s: &[f64], lens: bool) -> View
     ensures { λ r. ⌜ r ≡ viewOf (now (s .entry)) lens ⌝ }
 {
     View::Calibrated(camera_of(s, lens))
 }
 
+// The border mode of a code: 0 rejects, 1 clamps, any other answers with the constant.
 pub fn border_of(mode: u32, constant: u8) -> BorderMode
     ensures { λ r. ⌜ r ≡ borderOf mode constant ⌝ }
 {
@@ -136,63 +148,4 @@ pub fn border_of(mode: u32, constant: u8) -> BorderMode
         return BorderMode::Clamp;
     }
     BorderMode::Constant(constant)
-}
-
-// ---- writing
-
-// A value past the buffer's end is left out.
-pub fn put(out: &mut [f64], i: usize, x: f64)
-    ensures { λ _. ⌜ now (out .exit) ≡ set (now (out .entry)) i x ⌝ }
-{
-    if i < out.len() {
-        out[i] = x;
-    }
-}
-
-// A place from an index on.
-pub fn put_place_at(out: &mut [f64], at: u32, p: SourcePixel)
-    ensures { λ _. ⌜ now (out .exit) ≡ withPlaceAt at p (now (out .entry)) ⌝ }
-{
-    let i = at as usize;
-    put(out, i, p.0);
-    put(out, i + 1, p.1);
-}
-
-pub fn put_place(out: &mut [f64], p: SourcePixel)
-    ensures { λ _. ⌜ now (out .exit) ≡ withPlace p (now (out .entry)) ⌝ }
-{
-    put_place_at(out, 0, p);
-}
-
-pub fn put_point(out: &mut [f64], p: EdgePoint)
-    ensures { λ _. ⌜ now (out .exit) ≡ withPoint p (now (out .entry)) ⌝ }
-{
-    put_place(out, p.pos);
-    put(out, 2, p.weight);
-}
-
-pub fn put_line(out: &mut [f64], l: Line2)
-    ensures { λ _. ⌜ now (out .exit) ≡ withLine l (now (out .entry)) ⌝ }
-{
-    put_place(out, l.centroid);
-    put(out, 2, l.dir.x);
-    put(out, 3, l.dir.y);
-}
-
-// Three values from a place on: a row of a map.
-fn put_row(out: &mut [f64], at: u32, x: f64, y: f64, z: f64)
-    ensures { λ _. ⌜ now (out .exit) ≡ withRow at x y z (now (out .entry)) ⌝ }
-{
-    let i = at as usize;
-    put(out, i, x);
-    put(out, i + 1, y);
-    put(out, i + 2, z);
-}
-
-pub fn put_map(out: &mut [f64], m: PerspectiveTransform)
-    ensures { λ _. ⌜ now (out .exit) ≡ withMap m (now (out .entry)) ⌝ }
-{
-    put_row(out, 0, m.a11, m.a21, m.a31);
-    put_row(out, 3, m.a12, m.a22, m.a32);
-    put_row(out, 6, m.a13, m.a23, m.a33);
 }

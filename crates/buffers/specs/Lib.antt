@@ -1,0 +1,2 @@
+-- What the contracts of `buffers` cite.
+pub mod Buffers

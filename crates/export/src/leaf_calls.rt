@@ -1,0 +1,214 @@
+// The leaf calls: each hands on what the one of its name in `leaves` gives.
+ghost use mathlib.Core.Path.{_≡_};
+ghost use lib.ListN.{set};
+ghost use lib.Ieee.{binary64};
+ghost use Rattle.ieee_root.specs.Root.{root};
+ghost use Rattle.pixel.specs.Pixels.{source};
+ghost use Rattle.sampling.specs.Sampling.{sampleBilinear};
+ghost use Rattle.sampling.specs.declared.View.the-variants.{Plain};
+ghost use Rattle.camera.specs.Camera.{cameraAnswer};
+ghost use Rattle.homography.specs.Homography.{squareToQuad, quadToQuad, mapAnswer, mapPoint, scaled, inverse, composed};
+ghost use Rattle.line.specs.Line.{fitLine, lineAnswer, crossing, crossAnswer};
+ghost use Rattle.profile.specs.Profile.{localizeEdgePoint};
+ghost use Rattle.lent.specs.Lent.{quadOf, mapOf, lineOf, cameraOf, viewOf, borderOf};
+ghost use Rattle.buffers.specs.Buffers.{withPlace, withPoint, withLine, withMap};
+ghost use Rattle.leaves.specs.Leaves.{lentScene, lentRay};
+
+// ---- sampling.rs
+
+#[no_mangle]
+pub extern "C" fn trufolmesca_sample_bilinear(
+    bytes: &[u8],
+    width: u32,
+    height: u32,
+    stride: u32,
+    x: f64,
+    y: f64,
+    border: u32,
+    constant: u8,
+    value: &mut [f64],
+) -> u32
+    ensures { λ r. ⌜ r ≡ sampleBilinear (now (bytes .entry)) width height stride x y (borderOf border constant) .number ⌝ }
+    ensures { λ _. ⌜ now (value .exit) ≡ set (now (value .entry)) 0
+        (sampleBilinear (now (bytes .entry)) width height stride x y (borderOf border constant) .luma) ⌝ }
+{
+    leaves::sample_bilinear(bytes, width, height, stride, x, y, border, constant, value)
+}
+
+// ---- camera.rs
+
+#[no_mangle]
+pub extern "C" fn trufolmesca_rectified_to_source(
+    camera: &[f64],
+    lens: bool,
+    x: f64,
+    y: f64,
+    place: &mut [f64],
+) -> u32
+    ensures { λ r. ⌜ r ≡ cameraAnswer (cameraOf (now (camera .entry)) lens) (source x y) .number ⌝ }
+    ensures { λ _. ⌜ now (place .exit) ≡ withPlace (cameraAnswer (cameraOf (now (camera .entry)) lens) (source x y) .place) (now (place .entry)) ⌝ }
+{
+    leaves::rectified_to_source(camera, lens, x, y, place)
+}
+
+// ---- homography.rs
+
+#[no_mangle]
+pub extern "C" fn trufolmesca_square_to_quad(corners: &[f64], map: &mut [f64]) -> u32
+    ensures { λ r. ⌜ r ≡ mapAnswer (squareToQuad (quadOf (now (corners .entry)))) .number ⌝ }
+    ensures { λ _. ⌜ now (map .exit) ≡ withMap (mapAnswer (squareToQuad (quadOf (now (corners .entry)))) .map) (now (map .entry)) ⌝ }
+{
+    leaves::square_to_quad(corners, map)
+}
+
+#[no_mangle]
+pub extern "C" fn trufolmesca_quad_to_quad(from: &[f64], to: &[f64], map: &mut [f64]) -> u32
+    ensures { λ r. ⌜ r ≡ mapAnswer (quadToQuad (quadOf (now (from .entry))) (quadOf (now (to .entry)))) .number ⌝ }
+    ensures { λ _. ⌜ now (map .exit) ≡ withMap (mapAnswer (quadToQuad (quadOf (now (from .entry))) (quadOf (now (to .entry)))) .map)
+        (now (map .entry)) ⌝ }
+{
+    leaves::quad_to_quad(from, to, map)
+}
+
+#[no_mangle]
+pub extern "C" fn trufolmesca_map(map: &[f64], u: f64, v: f64, place: &mut [f64])
+    ensures { λ _. ⌜ now (place .exit) ≡ withPlace (mapPoint (mapOf (now (map .entry))) u v) (now (place .entry)) ⌝ }
+{
+    leaves::map(map, u, v, place);
+}
+
+#[no_mangle]
+pub extern "C" fn trufolmesca_scaled(sx: f64, sy: f64, map: &mut [f64])
+    ensures { λ _. ⌜ now (map .exit) ≡ withMap (scaled sx sy) (now (map .entry)) ⌝ }
+{
+    leaves::scaled(sx, sy, map);
+}
+
+#[no_mangle]
+pub extern "C" fn trufolmesca_inverse(map: &[f64], out: &mut [f64])
+    ensures { λ _. ⌜ now (out .exit) ≡ withMap (inverse (mapOf (now (map .entry)))) (now (out .entry)) ⌝ }
+{
+    leaves::inverse(map, out);
+}
+
+// The inner map first, and the outer one after it.
+#[no_mangle]
+pub extern "C" fn trufolmesca_then(inner: &[f64], outer: &[f64], out: &mut [f64])
+    ensures { λ _. ⌜ now (out .exit) ≡ withMap (composed (mapOf (now (inner .entry))) (mapOf (now (outer .entry)))) (now (out .entry)) ⌝ }
+{
+    leaves::then(inner, outer, out);
+}
+
+// ---- line.rs
+
+#[no_mangle]
+pub extern "C" fn trufolmesca_fit_line_tls_weighted(
+    xs: &[f64],
+    ys: &[f64],
+    weights: &[f64],
+    line: &mut [f64],
+) -> u32
+    ensures { λ r. ⌜ r ≡ lineAnswer (fitLine (now (xs .entry)) (now (ys .entry)) (now (weights .entry))) .number ⌝ }
+    ensures { λ _. ⌜ now (line .exit) ≡ withLine (lineAnswer (fitLine (now (xs .entry)) (now (ys .entry)) (now (weights .entry))) .line)
+        (now (line .entry)) ⌝ }
+{
+    leaves::fit_line_tls_weighted(xs, ys, weights, line)
+}
+
+#[no_mangle]
+pub extern "C" fn trufolmesca_intersect_lines(a: &[f64], b: &[f64], place: &mut [f64]) -> u32
+    ensures { λ r. ⌜ r ≡ crossAnswer (crossing (lineOf (now (a .entry))) (lineOf (now (b .entry)))) .number ⌝ }
+    ensures { λ _. ⌜ now (place .exit) ≡ withPlace (crossAnswer (crossing (lineOf (now (a .entry))) (lineOf (now (b .entry)))) .place)
+        (now (place .entry)) ⌝ }
+{
+    leaves::intersect_lines(a, b, place)
+}
+
+// ---- refine.rs, `localize_edge_point`
+
+#[no_mangle]
+pub extern "C" fn trufolmesca_localize_edge_point(
+    bytes: &[u8],
+    width: u32,
+    height: u32,
+    stride: u32,
+    coarse_x: f64,
+    coarse_y: f64,
+    normal_x: f64,
+    normal_y: f64,
+    step: f64,
+    inverted: bool,
+    inward_differs: bool,
+    point: &mut [f64],
+) -> u32
+    ensures { λ r. ⌜ r ≡ localizeEdgePoint (now (bytes .entry)) stride (lentScene width height Plain)
+        (lentRay «coarse_x» «coarse_y» «normal_x» «normal_y» step inverted «inward_differs») .number ⌝ }
+    ensures { λ _. ⌜ now (point .exit) ≡ withPoint (localizeEdgePoint (now (bytes .entry)) stride
+        (lentScene width height Plain)
+        (lentRay «coarse_x» «coarse_y» «normal_x» «normal_y» step inverted «inward_differs») .point) (now (point .entry)) ⌝ }
+{
+    leaves::localize_edge_point(
+        bytes,
+        width,
+        height,
+        stride,
+        coarse_x,
+        coarse_y,
+        normal_x,
+        normal_y,
+        step,
+        inverted,
+        inward_differs,
+        point,
+    )
+}
+
+#[no_mangle]
+pub extern "C" fn trufolmesca_localize_edge_point_mapped(
+    bytes: &[u8],
+    width: u32,
+    height: u32,
+    stride: u32,
+    coarse_x: f64,
+    coarse_y: f64,
+    normal_x: f64,
+    normal_y: f64,
+    step: f64,
+    inverted: bool,
+    inward_differs: bool,
+    camera: &[f64],
+    lens: bool,
+    point: &mut [f64],
+) -> u32
+    ensures { λ r. ⌜ r ≡ localizeEdgePoint (now (bytes .entry)) stride (lentScene width height (viewOf (now (camera .entry)) lens))
+        (lentRay «coarse_x» «coarse_y» «normal_x» «normal_y» step inverted «inward_differs») .number ⌝ }
+    ensures { λ _. ⌜ now (point .exit) ≡ withPoint (localizeEdgePoint (now (bytes .entry)) stride
+        (lentScene width height (viewOf (now (camera .entry)) lens))
+        (lentRay «coarse_x» «coarse_y» «normal_x» «normal_y» step inverted «inward_differs») .point) (now (point .entry)) ⌝ }
+{
+    leaves::localize_edge_point_mapped(
+        bytes,
+        width,
+        height,
+        stride,
+        coarse_x,
+        coarse_y,
+        normal_x,
+        normal_y,
+        step,
+        inverted,
+        inward_differs,
+        camera,
+        lens,
+        point,
+    )
+}
+
+// ---- the root
+
+#[no_mangle]
+pub extern "C" fn trufolmesca_sqrt(x: f64) -> f64
+    ensures { λ r. ⌜ r ≡ root binary64 x ⌝ }
+{
+    ieee_root::sqrt(x)
+}

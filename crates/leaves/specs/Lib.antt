@@ -1,0 +1,2 @@
+-- What the contracts of `leaves` cite.
+pub mod Leaves

@@ -1,2 +1,0 @@
--- What the proofs of `lent` cite.
-pub mod Chains
