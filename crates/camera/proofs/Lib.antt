@@ -1,3 +1,2 @@
 -- What the proofs of `camera`, and of the crates above it, share.
-pub mod Tests
 pub mod Places

@@ -4,8 +4,8 @@ use mathlib.Core.Bool.{Bool, true, false, not, _&&_, _||_}
 use Rattle.ieee.specs.Parts.{isFinite}
 use Rattle.pixel.specs.declared.SourcePixel.{SourcePixel}
 use Rattle.camera.specs.declared.CameraCalibration.{CameraCalibration}
-use Rattle.camera.specs.declared.Placed.{Placed}
-use Rattle.camera.specs.declared.Placed.the-variants.{On, Nowhere}
+use Rattle.camera.specs.declared.SourcePoint.{SourcePoint}
+use Rattle.camera.specs.declared.SourcePoint.the-variants.{At, Nowhere}
 use Rattle.camera.specs.Camera.{ifFinite, isIdentity, projected, rectifiedToSource}
 
 either : (a b : Bool) {t : Bool} → (a && b) ≡ t → (not a || not b) ≡ not t
@@ -17,10 +17,10 @@ module _ (c : CameraCalibration) (p : SourcePixel) where
   unfolding rectifiedToSource
   placed-nowhere e = rw (either (isFinite (p .0)) (isFinite (p .1)) e, rectifiedToSource)
 
-  pub placed-same : (isFinite (p .0) && isFinite (p .1)) ≡ true → isIdentity c ≡ true → On p ≡ rectifiedToSource c p
+  pub placed-same : (isFinite (p .0) && isFinite (p .1)) ≡ true → isIdentity c ≡ true → At p ≡ rectifiedToSource c p
   unfolding rectifiedToSource
   placed-same e i = rw (either (isFinite (p .0)) (isFinite (p .1)) e, i, rectifiedToSource)
 
-  pub placed-through : (isFinite (p .0) && isFinite (p .1)) ≡ true → isIdentity c ≡ false → {r : Placed} → r ≡ ifFinite (projected c p) → r ≡ rectifiedToSource c p
+  pub placed-through : (isFinite (p .0) && isFinite (p .1)) ≡ true → isIdentity c ≡ false → {r : SourcePoint} → r ≡ ifFinite (projected c p) → r ≡ rectifiedToSource c p
   unfolding rectifiedToSource
   placed-through e i h = h ∙ rw (either (isFinite (p .0)) (isFinite (p .1)) e, i, rectifiedToSource)

@@ -1,9 +1,10 @@
 -- camera.rs: `rectified_to_source`, for no lens and for Brown-Conrady, and which cameras are refused. Definitions only.
 use mathlib.Core.Bool.{Bool, true, false, not, _&&_, _||_}
 use lib.Ieee.{Float}
+use Rattle.prelude.specs.Prelude.{if_then_else_}
 use Rattle.number.specs.Numbers as number
 use Rattle.ieee.specs.Parts.{isFinite}
-use Rattle.ieee.specs.Floats.{if_then_else_, _⊕_, _⊖_, _⊗_, _⊘_, _≐_, _≺_, f0, f1, f2}
+use Rattle.ieee.specs.Floats.{_⊕_, _⊖_, _⊗_, _⊘_, _≐_, _≺_, f0, f1, f2}
 use Rattle.pixel.specs.Pixels.{source}
 use Rattle.pixel.specs.declared.SourcePixel.{SourcePixel}
 use Rattle.camera.specs.declared.CameraIntrinsics.{CameraIntrinsics}
@@ -11,8 +12,8 @@ use Rattle.camera.specs.declared.LensDistortion.{LensDistortion}
 use Rattle.camera.specs.declared.LensDistortion.the-variants.{None, BrownConrady}
 use Rattle.camera.specs.declared.CameraCalibration.{CameraCalibration}
 use Rattle.camera.specs.declared.Normalized.{Normalized}
-use Rattle.camera.specs.declared.Placed.{Placed}
-use Rattle.camera.specs.declared.Placed.the-variants.{On, Nowhere}
+use Rattle.camera.specs.declared.SourcePoint.{SourcePoint}
+use Rattle.camera.specs.declared.SourcePoint.the-variants.{At, Nowhere}
 use Rattle.camera.specs.declared.PlaceAnswer.{PlaceAnswer}
 
 -- ---- what is refused by 6: a number that is not finite, a focal length that is not above 0
@@ -61,19 +62,19 @@ projected c p =
     let d = distorted (c .distortion) ((p .0 ⊖ r .cx) ⊘ r .fx) ((p .1 ⊖ r .cy) ⊘ r .fy) in
     source (s .fx ⊗ d .0 ⊕ s .cx) (s .fy ⊗ d .1 ⊕ s .cy)
 
-unfoldable pub ifFinite : SourcePixel → Placed
-ifFinite p = if isFinite (p .0) && isFinite (p .1) then On p else Nowhere
+unfoldable pub ifFinite : SourcePixel → SourcePoint
+ifFinite p = if isFinite (p .0) && isFinite (p .1) then At p else Nowhere
 
-unfoldable pub rectifiedToSource : CameraCalibration → SourcePixel → Placed
+unfoldable pub rectifiedToSource : CameraCalibration → SourcePixel → SourcePoint
 rectifiedToSource c p =
     if not (isFinite (p .0)) || not (isFinite (p .1)) then Nowhere else
-    if isIdentity c then On p else
+    if isIdentity c then At p else
     ifFinite (projected c p)
 
 -- ---- what an answer says: document 01's number, and the values
 
-unfoldable pub placeAnswer : Placed → PlaceAnswer
-placeAnswer (On p) = record { number = number.answer; place = p }
+unfoldable pub placeAnswer : SourcePoint → PlaceAnswer
+placeAnswer (At p) = record { number = number.answer; place = p }
 placeAnswer Nowhere = record { number = number.place; place = source f0 f0 }
 
 unfoldable pub cameraAnswer : CameraCalibration → SourcePixel → PlaceAnswer

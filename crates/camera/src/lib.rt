@@ -36,8 +36,8 @@ pub struct CameraCalibration {
 pub struct Normalized(pub f64, pub f64);
 
 // Where a rectified place lies in the source picture.
-pub enum Placed {
-    On(SourcePixel),
+pub enum SourcePoint {
+    At(SourcePixel),
     Nowhere,
 }
 
@@ -136,13 +136,13 @@ impl LensDistortion {
     }
 }
 
-fn if_finite(p: SourcePixel) -> Placed
+fn if_finite(p: SourcePixel) -> SourcePoint
     ensures { λ r. ⌜ r ≡ ifFinite p ⌝ }
 {
     if both_finite(p.0, p.1) {
-        return Placed::On(p);
+        return SourcePoint::At(p);
     }
-    Placed::Nowhere
+    SourcePoint::Nowhere
 }
 
 impl CameraCalibration {
@@ -187,14 +187,14 @@ impl CameraCalibration {
 
     // Where a rectified place lies in the source picture. Whoever samples through the camera has
     // tested it once, so it is not tested here.
-    fn place_in_source(self, p: SourcePixel) -> Placed
+    fn place_in_source(self, p: SourcePixel) -> SourcePoint
         ensures { λ r. ⌜ r ≡ rectifiedToSource self p ⌝ }
     {
         if !both_finite(p.0, p.1) {
-            return Placed::Nowhere;
+            return SourcePoint::Nowhere;
         }
         if self.is_identity() {
-            return Placed::On(p);
+            return SourcePoint::At(p);
         }
         if_finite(self.project(p))
     }
@@ -212,11 +212,11 @@ impl CameraCalibration {
         }
         let placed = self.place_in_source(p);
         match placed {
-            Placed::On(q) => PlaceAnswer {
+            SourcePoint::At(q) => PlaceAnswer {
                 number: number::ANSWER,
                 place: q,
             },
-            Placed::Nowhere => PlaceAnswer {
+            SourcePoint::Nowhere => PlaceAnswer {
                 number: number::PLACE,
                 place: SourcePixel(0.0, 0.0),
             },

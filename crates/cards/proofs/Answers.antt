@@ -3,18 +3,18 @@ use Prim.Native.Nat.{ℕ}
 use native.Mathlib.Omega.{arith}
 use mathlib.Core.List.{List}
 use Rattle.number.specs.Numbers as number
-use Rattle.ieee.proofs.Branches.{either}
+use Rattle.prelude.proofs.Branches.{either}
 use Rattle.grid.proofs.Counts.{limit-in-room}
 use Rattle.rounds.proofs.Fours.{four-of}
 use Rattle.rounds.proofs.Answers.{Sound, refused-sound}
 use Rattle.refine.proofs.Answers.{refine-sound}
-use Rattle.job_card.specs.JobCard.{goodCard}
+use Rattle.job_card.specs.JobCard.{wellFormed}
 use Rattle.job.specs.Job.{cornersOf, requestFrom, requestOf, modulesOf, photographOf}
 use Rattle.cards.specs.Run.{jobAnswer}
 
 pub job-sound : (card : List ℕ) → Sound 255 (jobAnswer card)
 unfolding jobAnswer requestOf requestFrom cornersOf
 job-sound card =
-    either (Sound 255) (goodCard card)
+    either (Sound 255) (wellFormed card)
     (refine-sound 255 (requestOf card) (modulesOf card) (photographOf card) (omega (arith, limit-in-room (requestOf card .settings))) (four-of tt tt tt tt))
     (refused-sound 255 number.card)

@@ -6,15 +6,15 @@ use mathlib.Core.Path.{_≡_, sym, ap, _∙_}
 use mathlib.Core.List.{List}
 use borrow.Author.Tests.{le-leb, lt-leb, eq-eqb, ne-eqb}
 use lib.ListN.{length}
-use Rattle.ieee.proofs.Branches.{by-test}
+use Rattle.prelude.proofs.Branches.{by-test}
 use Rattle.corners.specs.declared.Answer.{Answer}
 use Rattle.corners.specs.Corners.{refused}
 use Rattle.number.specs.Numbers as number
-use Rattle.job_card.specs.JobCard.{goodCard}
+use Rattle.job_card.specs.JobCard.{wellFormed}
 use Rattle.result_card.specs.ResultCard.{withCard}
 use Rattle.cards.specs.Run.{jobAnswer, runNumber, runLeaves}
 
-malformed : (card : List ℕ) → goodCard card ≡ false → jobAnswer card .number ≡ number.card
+malformed : (card : List ℕ) → wellFormed card ≡ false → jobAnswer card .number ≡ number.card
 unfolding jobAnswer refused
 malformed card bad = rw bad
 
@@ -23,12 +23,12 @@ module _ (card out : List ℕ) where
   unfolding runNumber runLeaves
   too-short short = (rw (lt-leb 93 (length out) short, and-false), rw (lt-leb 93 (length out) short, and-false))
 
-  module _ (room : 93 ≤ length out) (a : Answer) (is : a ≡ jobAnswer card) where
+  module _ (maxEdgePoints : 93 ≤ length out) (a : Answer) (is : a ≡ jobAnswer card) where
     job-number : a .number ≡ runNumber card out
     unfolding runNumber
     job-number =
         ap (λ (x : Answer). x .number) is
-        ∙ by-test (goodCard card) (λ good. rw (good, le-leb 93 (length out) room)) (λ bad. rw bad (malformed card bad))
+        ∙ by-test (wellFormed card) (λ good. rw (good, le-leb 93 (length out) maxEdgePoints)) (λ bad. rw bad (malformed card bad))
 
     pub refused-run : (a .number ≡ number.answer → ⊥) → (a .number ≡ runNumber card out) × (out ≡ runLeaves card out)
     unfolding runLeaves
@@ -38,4 +38,4 @@ module _ (card out : List ℕ) where
         → (number.answer ≡ runNumber card out) × (left ≡ runLeaves card out)
     unfolding runLeaves withCard
     answered-run left zero wrote =
-        (sym zero ∙ job-number, rw (← job-number, eq-eqb (a .number) number.answer zero, ← is) (rw (le-leb 93 (length out) room) at wrote))
+        (sym zero ∙ job-number, rw (← job-number, eq-eqb (a .number) number.answer zero, ← is) (rw (le-leb 93 (length out) maxEdgePoints) at wrote))

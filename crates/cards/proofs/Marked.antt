@@ -9,16 +9,16 @@ use Rattle.corners.specs.Corners.{refused}
 use Rattle.refine.specs.declared.Request.{Request}
 use Rattle.refine.specs.Refine.{photograph}
 use Rattle.marking.specs.Marking.{Marks}
-use Rattle.job_card.specs.JobCard.{goodCard, fieldPart}
+use Rattle.job_card.specs.JobCard.{wellFormed, fieldPart}
 use Rattle.job.specs.Job.{requestOf, modulesOf, strideOf}
 use Rattle.cards.specs.RunMarking.{jobMarking, jobSheet, jobCopy, JobMarks}
 
 module _ (card : List ℕ) (a : Answer) (s c : List ℕ) where
-  pub malformed-marks : goodCard card ≡ false → a ≡ refused number.card → JobMarks card a s s c c
+  pub malformed-marks : wellFormed card ≡ false → a ≡ refused number.card → JobMarks card a s s c c
   unfolding jobMarking jobSheet jobCopy
   malformed-marks bad is = record { answer = rw bad is; sheet = rw bad; copy = rw bad }
 
-  pub asked-marks : (r : Request) (ms bytes : List ℕ) (stride : ℕ) (s′ c′ : List ℕ) → goodCard card ≡ true → r ≡ requestOf card → ms ≡ modulesOf card
+  pub asked-marks : (r : Request) (ms bytes : List ℕ) (stride : ℕ) (s′ c′ : List ℕ) → wellFormed card ≡ true → r ≡ requestOf card → ms ≡ modulesOf card
       → bytes ≡ fieldPart card 2 → stride ≡ strideOf card → Marks r ms (photograph bytes stride) a s s′ c c′ → JobMarks card a s s′ c c′
   unfolding jobMarking jobSheet jobCopy
   asked-marks r ms bytes stride s′ c′ good asked grid lies rows ran = record {

@@ -1,20 +1,20 @@
 // A job card, run without marking, as the printing program does.
 ghost use mathlib.Core.Path.{_≡_};
 ghost use Rattle.cards.specs.Run.{jobAnswer, runNumber, runLeaves};
+use corners::Answer;
 use job::modules_of;
 use job::request_of;
 use job::stride_of;
-use job_card::is_good;
 use job_card::part;
+use job_card::well_formed;
 use result_card::RESULT_SIZE;
 use result_card::put_result;
-use corners::Answer;
 
 // The answer of a job card: 12 where it is malformed, else that of the refinement it asks for.
 pub fn run_job(card: &[u8]) -> Answer
     ensures { λ r. ⌜ r ≡ jobAnswer (now (card .entry)) ⌝ }
 {
-    if !is_good(card) {
+    if !well_formed(card) {
         return corners::refused(number::CARD);
     }
     refine::refine_corners_mapped(

@@ -1,11 +1,11 @@
 // A job card, run by the marking call.
 ghost use Rattle.cards.specs.RunMarking.{JobMarks};
+use corners::Answer;
 use job::modules_of;
 use job::request_of;
 use job::stride_of;
-use job_card::is_good;
 use job_card::part;
-use corners::Answer;
+use job_card::well_formed;
 
 // Runs a job card, and writes what it read to sheet and copy, as `marking::refine_corners_mapped_marking` does. A malformed
 // card writes nothing.
@@ -13,7 +13,7 @@ pub fn run_job_marking(card: &[u8], sheet: &mut [u8], copy: &mut [u8]) -> Answer
     ensures { λ r. ⌜ JobMarks (now (card .entry)) r
         (now (sheet .entry)) (now (sheet .exit)) (now (copy .entry)) (now (copy .exit)) ⌝ }
 {
-    if !is_good(card) {
+    if !well_formed(card) {
         return corners::refused(number::CARD);
     }
     marking::refine_corners_mapped_marking(

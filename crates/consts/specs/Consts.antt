@@ -17,5 +17,5 @@ defaults = record {
 }
 
 -- how many probes or points an edge's arrays hold
-abbrev pub room : ℕ
-room = 64
+abbrev pub maxEdgePoints : ℕ
+maxEdgePoints = 64

@@ -23,7 +23,7 @@ pub struct Settings {
 }
 
 // How many probes or points an edge's arrays hold.
-pub const ROOM: usize = 64;
+pub const MAX_EDGE_POINTS: usize = 64;
 
 // The numbers of consts.rs.
 pub fn defaults() -> Settings

@@ -6,8 +6,9 @@ use mathlib.Core.List.{List, [], _∷_}
 use lib.Dec.{ltb, eqb}
 use lib.ListN.{getD, set, replicate}
 use lib.Ieee.{nan}
+use Rattle.prelude.specs.Prelude.{if_then_else_, bit}
 use Rattle.number.specs.Numbers as number
-use Rattle.ieee.specs.Floats.{if_then_else_, f0}
+use Rattle.ieee.specs.Floats.{f0}
 use Rattle.pixel.specs.Pixels.{source, direction, corner}
 use Rattle.pixel.specs.declared.SourcePixel.{SourcePixel}
 use Rattle.line.specs.declared.Line2.{Line2}
@@ -16,9 +17,8 @@ use Rattle.line.specs.declared.Crossing.the-variants.{At, Parallel}
 use Rattle.line.specs.Line.{line, zeroLine, crossing}
 use Rattle.fit.specs.declared.EdgeStat.{EdgeStat}
 use Rattle.fit.specs.declared.EdgeFit.{EdgeFit}
-use Rattle.fit.specs.declared.EdgeFit.the-variants.{Stops, Weak, Lined}
+use Rattle.fit.specs.declared.EdgeFit.the-variants.{Refusal, TooFewPoints, LineFit}
 use Rattle.fit.specs.Fit.{stat}
-use Rattle.look.specs.Sheets.{bit}
 use Rattle.corners.specs.declared.RefinedCorners.{RefinedCorners}
 use Rattle.corners.specs.declared.Answer.{Answer}
 use Rattle.corners.specs.declared.Edges.{Edges}
@@ -43,10 +43,10 @@ unfoldable pub noEdges : Edges
 noEdges = record { number = number.answer; lines = replicate 4 zeroLine; «edge_stats» = replicate 4 noStat }
 
 -- edge e put in its place
-unfoldable pub joined : ℕ → Edges → EdgeFit → Edges
-joined e got (Stops n) = record { number = n; lines = got .lines; «edge_stats» = got .«edge_stats» }
-joined e got (Weak c) = record { number = got .number; lines = got .lines; «edge_stats» = set (got .«edge_stats») e c }
-joined e got (Lined l c) = record { number = got .number; lines = set (got .lines) e l; «edge_stats» = set (got .«edge_stats») e c }
+unfoldable pub withEdge : ℕ → Edges → EdgeFit → Edges
+withEdge e got (Refusal n) = record { number = n; lines = got .lines; «edge_stats» = got .«edge_stats» }
+withEdge e got (TooFewPoints c) = record { number = got .number; lines = got .lines; «edge_stats» = set (got .«edge_stats») e c }
+withEdge e got (LineFit l c) = record { number = got .number; lines = set (got .lines) e l; «edge_stats» = set (got .«edge_stats») e c }
 
 -- ---- the corners
 
@@ -94,5 +94,5 @@ roundEnd q es =
 
 -- all of the above, for a proof that computes with them: to unfold this is to unfold what its line names
 unfoldable pub opened : Unit {0}
-unfolding refused answered noEdges joined validCount crossedAt orElse isAt refinedCorners roundEnd
+unfolding refused answered noEdges withEdge validCount crossedAt orElse isAt refinedCorners roundEnd
 opened = tt

@@ -2,12 +2,12 @@
 ghost use mathlib.Core.Path.{_≡_};
 ghost use Prim.Native.Nat.{_≤_, _<_};
 ghost use lib.ListN.{set as setAt};
-ghost use Rattle.look.specs.Sheets.{bit as bitOf};
+ghost use Rattle.prelude.specs.Prelude.{bit as bitOf};
 ghost use Rattle.line.specs.Line.{zeroLine};
 ghost use Rattle.corners.specs.Corners.{
   crossedAt,
   isAt,
-  joined,
+  withEdge,
   noEdges,
   noStat,
   orElse,
@@ -122,23 +122,23 @@ impl Edges {
 
     // The edges with edge e put in its place, or the number by which it ends them.
     pub fn with(self, e: usize, fit: EdgeFit) -> Edges
-        ensures { λ r. ⌜ r ≡ joined e self fit ⌝ }
+        ensures { λ r. ⌜ r ≡ withEdge e self fit ⌝ }
     {
         let number = self.number;
         let lines = self.lines;
         let edge_stats = self.edge_stats;
         match fit {
-            EdgeFit::Stops(n) => Edges {
+            EdgeFit::Refusal(n) => Edges {
                 number: n,
                 lines,
                 edge_stats,
             },
-            EdgeFit::Weak(stat) => Edges {
+            EdgeFit::TooFewPoints(stat) => Edges {
                 number,
                 lines,
                 edge_stats: put_stat(edge_stats, e, stat),
             },
-            EdgeFit::Lined(line, stat) => Edges {
+            EdgeFit::LineFit(line, stat) => Edges {
                 number,
                 lines: put_line(lines, e, line),
                 edge_stats: put_stat(edge_stats, e, stat),
@@ -149,19 +149,15 @@ impl Edges {
 
 // ---- the corners
 
-// A bool as a number.
-fn bit(set: bool) -> u32
-    ensures { λ r. ⌜ (r ≡ bitOf set) × (r ≤ 1) ⌝ }
-{
-    if set { 1 } else { 0 }
-}
-
 // How many of the four edges are valid.
 fn valid_count(edges: Edges) -> u32
     ensures { λ r. ⌜ r ≡ validCount edges ⌝ }
 {
     let stats = edges.edge_stats;
-    bit(stats[0].valid) + bit(stats[1].valid) + bit(stats[2].valid) + bit(stats[3].valid)
+    prelude::bit(stats[0].valid)
+        + prelude::bit(stats[1].valid)
+        + prelude::bit(stats[2].valid)
+        + prelude::bit(stats[3].valid)
 }
 
 // Where the edges before and behind corner i cross, if both are valid. The point is computed along the

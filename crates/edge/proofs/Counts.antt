@@ -6,10 +6,10 @@ use native.Mathlib.Omega.{arith}
 use native.Mathlib.Nat.{le-trans}
 use lib.ListN.{length, length-append}
 use Rattle.ieee.specs.Floats.{float, _≺_, _⊘_, f1e-9}
-use Rattle.ieee.proofs.Branches.{either}
+use Rattle.prelude.proofs.Branches.{either}
 use Rattle.pixel.specs.declared.EdgePoint.{EdgePoint}
 use Rattle.fit.proofs.Counts.{EdgeCounted, counted, none-counted, fit-counted}
-use Rattle.look.proofs.Always.{Always, ends, always-bind, always-after, always-weaker}
+use Rattle.sample_tree.proofs.Always.{Always, ends, always-bind, always-after, always-weaker}
 use Rattle.peak.specs.declared.Located.{Located}
 use Rattle.peak.specs.declared.Located.the-variants.{Found, NoEdge}
 use Rattle.grid.specs.declared.Probe.{Probe}

@@ -7,19 +7,19 @@ use mathlib.Core.List.{List, [], _∷_}
 use lib.ListN.{length, getD, take, drop, length-take, drop-of-length-le}
 use lib.Seq.{drop-cons, getD-take}
 use lib.Ieee.{Float}
-use Rattle.consts.specs.Consts.{room}
+use Rattle.consts.specs.Consts.{maxEdgePoints}
 use Rattle.pixel.specs.declared.EdgePoint.{EdgePoint}
-use Rattle.look.specs.Look.{Look, done}
-use Rattle.look.specs.Run.{Sampler, Runs}
-use Rattle.look.proofs.Steps.{Leads, start, then, called, end}
+use Rattle.sample_tree.specs.SampleTree.{SampleTree, done}
+use Rattle.sample_tree.specs.Run.{Sampler, Runs}
+use Rattle.sample_tree.proofs.Steps.{Leads, start, then, called, end}
 use Rattle.fit.specs.Fit.{fitEdge}
 use Rattle.fit.specs.declared.EdgeFit.{EdgeFit}
 use Rattle.peak.specs.declared.Located.{Located}
 use Rattle.grid.specs.declared.Probe.{Probe}
 use Rattle.edge.specs.declared.Plan.{Plan}
 use Rattle.edge.specs.declared.Side.{Side}
-use Rattle.edge.specs.declared.Aim.{Aim}
-use Rattle.edge.specs.Edge.{aimed, sought, probed, plus, points, fitted}
+use Rattle.edge.specs.declared.ProbeRay.{ProbeRay}
+use Rattle.edge.specs.Edge.{probeRay, localizeProbe, probed, plus, points, fitted}
 use Rattle.edge.specs.Store.{storedTo}
 use Rattle.edge.proofs.Stores.{stored-all}
 
@@ -30,7 +30,7 @@ next ps n i d l h =
     rw (add-one i, drop-cons (take n ps) i d within, getD-take n ps i d l)
 
 module _ {S : Type 0} (ask : Sampler S) (plan : Plan) (side : Side) (ps : List Probe) (n : ℕ) where
-  abbrev whole : Look (List EdgePoint)
+  abbrev whole : SampleTree (List EdgePoint)
   whole = points plan side (take n ps) []
 
   -- what is left after i probes
@@ -42,14 +42,14 @@ module _ {S : Type 0} (ask : Sampler S) (plan : Plan) (side : Side) (ps : List P
 
   pub one-probed : (i : ℕ) (d : Probe) (got : List EdgePoint) {r : Located} {got′ : List EdgePoint} {state₀ state state′ : S} → i < n → n ≤ length ps
       → Left state₀ i got state
-      → {aim : Aim} → aim ≡ aimed plan side (getD ps i d) → Runs ask (sought (plan .settings) aim) r state state′ → got′ ≡ plus got r → Left state₀ (i + 1) got′ state′
+      → {aim : ProbeRay} → aim ≡ probeRay plan side (getD ps i d) → Runs ask (localizeProbe (plan .settings) aim) r state state′ → got′ ≡ plus got r → Left state₀ (i + 1) got′ state′
   unfolding points probed
   one-probed i d got {r} {state = state} {state′ = state′} l h left is ran hg =
       rw hg
       (then ask
       (rw (next ps n i d l h) at left)
       (called ask (probed plan side (getD ps i d)) (λ z. points plan side (drop (i + 1) (take n ps)) (plus got z))
-      (subst (λ (z : Aim). Runs ask (sought (plan .settings) z) r state state′) is ran)))
+      (subst (λ (z : ProbeRay). Runs ask (localizeProbe (plan .settings) z) r state state′) is ran)))
 
   pub all-probed : (i : ℕ) (got : List EdgePoint) {state₀ state : S} → n ≤ i → Left state₀ i got state → Runs ask whole got state₀ state
   unfolding points
@@ -58,8 +58,8 @@ module _ {S : Type 0} (ask : Sampler S) (plan : Plan) (side : Side) (ps : List P
       end ask (rw (drop-of-length-le (take n ps) over) at left)
 
   -- the line through the first k of the slices
-  pub fits-probed : (k : ℕ) (xs ys ws : List Float) (modulePx : Float) {r : EdgeFit} {state state′ : S} → k ≤ room → n ≤ length ps
-      → Runs ask whole (storedTo k xs ys ws) state state′ → r ≡ fitEdge (plan .settings) n modulePx (take room (storedTo k xs ys ws)) → Runs ask (fitted plan side modulePx (take n ps)) r state state′
+  pub fits-probed : (k : ℕ) (xs ys ws : List Float) (modulePx : Float) {r : EdgeFit} {state state′ : S} → k ≤ maxEdgePoints → n ≤ length ps
+      → Runs ask whole (storedTo k xs ys ws) state state′ → r ≡ fitEdge (plan .settings) n modulePx (take maxEdgePoints (storedTo k xs ys ws)) → Runs ask (fitted plan side modulePx (take n ps)) r state state′
   unfolding fitted
   fits-probed k xs ys ws modulePx {r} l h ran hr =
       let all : n ≡ length (take n ps) = omega (arith, length-take n ps) in

@@ -7,7 +7,7 @@ use mathlib.Core.List.{List, [], _∷_, _++_}
 use lib.ListN.{length, take, set, length-take}
 use lib.Seq.{take-suc-set, take-all, length-take-le}
 use lib.Ieee.{Float}
-use Rattle.consts.specs.Consts.{room}
+use Rattle.consts.specs.Consts.{maxEdgePoints}
 use Rattle.pixel.specs.Pixels.{source, edgePoint}
 use Rattle.pixel.specs.declared.EdgePoint.{EdgePoint}
 use Rattle.fit.specs.Fit.{pointsOf}
@@ -56,7 +56,7 @@ points-few (x ∷ xs) (y ∷ ys) [] = omega arith
 points-few (x ∷ xs) (y ∷ ys) (w ∷ ws) = omega (arith, points-few xs ys ws)
 
 -- a store within the room holds all its points
-pub stored-all : (n : ℕ) (xs ys ws : List Float) → n ≤ room → take room (storedTo n xs ys ws) ≡ storedTo n xs ys ws
+pub stored-all : (n : ℕ) (xs ys ws : List Float) → n ≤ maxEdgePoints → take maxEdgePoints (storedTo n xs ys ws) ≡ storedTo n xs ys ws
 stored-all n xs ys ws h =
     let few = points-few (take n xs) (take n ys) (take n ws) in
-    take-all room (storedTo n xs ys ws) (omega (arith, few, length-take n xs))
+    take-all maxEdgePoints (storedTo n xs ys ws) (omega (arith, few, length-take n xs))

@@ -4,17 +4,18 @@ use mathlib.Core.Bool.{false}
 use mathlib.Core.List.{List, [], _∷_, _++_}
 use lib.ListN.{length}
 use lib.Ieee.{Float, binary64}
+use Rattle.prelude.specs.Prelude.{if_then_else_}
 use Rattle.ieee_root.specs.Root.{root}
-use Rattle.ieee.specs.Floats.{if_then_else_, _⊕_, _⊖_, _⊗_, _⊘_, _≺_, float, f0, f1, f½, f1e-9}
+use Rattle.ieee.specs.Floats.{_⊕_, _⊖_, _⊗_, _⊘_, _≺_, float, f0, f1, f½, f1e-9}
 use Rattle.pixel.specs.Pixels.{source, direction}
 use Rattle.pixel.specs.declared.SourcePixel.{SourcePixel}
 use Rattle.pixel.specs.declared.EdgePoint.{EdgePoint}
 use Rattle.consts.specs.declared.Settings.{Settings}
 use Rattle.homography.specs.Homography.{mapPoint}
 use Rattle.fit.specs.declared.EdgeFit.{EdgeFit}
-use Rattle.fit.specs.declared.EdgeFit.the-variants.{Weak}
+use Rattle.fit.specs.declared.EdgeFit.the-variants.{TooFewPoints}
 use Rattle.fit.specs.Fit.{stat, fitEdge}
-use Rattle.look.specs.Look.{Look, done, _>>=_}
+use Rattle.sample_tree.specs.SampleTree.{SampleTree, done, _>>=_}
 use Rattle.peak.specs.declared.Located.{Located}
 use Rattle.peak.specs.declared.Located.the-variants.{Found, NoEdge}
 use Rattle.profile.specs.Profile.{localize}
@@ -23,24 +24,24 @@ use Rattle.grid.specs.Grids.{gridOf, bySide}
 use Rattle.grid.specs.Probes.{probesOf}
 use Rattle.edge.specs.declared.Plan.{Plan}
 use Rattle.edge.specs.declared.Side.{Side}
-use Rattle.edge.specs.declared.Aim.{Aim}
+use Rattle.edge.specs.declared.ProbeRay.{ProbeRay}
 
 -- ---- a probe's point
 
 -- a point of the unit square, t along an edge: at the top and the left `near` from the side, at the other two `far` from the opposite one
-unfoldable pub beside : ℕ → Float → Float → Float → SourcePixel
-beside e near far t = bySide e (source t near) (source far t) (source t far) (source near t)
+unfoldable pub pointOnSide : ℕ → Float → Float → Float → SourcePixel
+pointOnSide e near far t = bySide e (source t near) (source far t) (source t far) (source near t)
 
 -- the boundary point of the unit square, and the point one module further in
 abbrev pub boundary : ℕ → Float → SourcePixel
-boundary e t = beside e f0 f1 t
+boundary e t = pointOnSide e f0 f1 t
 
 abbrev pub inward : ℕ → Float → Float → SourcePixel
-inward e invDim t = beside e invDim (f1 ⊖ invDim) t
+inward e invDim t = pointOnSide e invDim (f1 ⊖ invDim) t
 
 -- where a probe looks: outwards from the point one module further in, by steps of half that length, the local module
-unfoldable pub aimed : Plan → Side → Probe → Aim
-aimed p side at =
+unfoldable pub probeRay : Plan → Side → Probe → ProbeRay
+probeRay p side at =
     let b = boundary (side .edge) (at .t) in
     let i = inward (side .edge) (f1 ⊘ float (p .dim)) (at .t) in
     let coarse = mapPoint (side .map) (b .0) (b .1) in
@@ -60,11 +61,11 @@ aimed p side at =
     }
 
 -- too short a module ends a probe unread
-unfoldable pub sought : Settings → Aim → Look Located
-sought s aim = if aim .«perp_module_px» ≺ f1e-9 then done NoEdge else localize s (aim .ray)
+unfoldable pub localizeProbe : Settings → ProbeRay → SampleTree Located
+localizeProbe s aim = if aim .«perp_module_px» ≺ f1e-9 then done NoEdge else localize s (aim .ray)
 
-unfoldable pub probed : Plan → Side → Probe → Look Located
-probed p side at = sought (p .settings) (aimed p side at)
+unfoldable pub probed : Plan → Side → Probe → SampleTree Located
+probed p side at = localizeProbe (p .settings) (probeRay p side at)
 
 -- ---- the points
 
@@ -73,14 +74,14 @@ plus got NoEdge = got
 plus got (Found p) = got ++ p ∷ []
 
 -- the points of the probes, behind those that there are
-unfoldable pub points : Plan → Side → List Probe → List EdgePoint → Look (List EdgePoint)
+unfoldable pub points : Plan → Side → List Probe → List EdgePoint → SampleTree (List EdgePoint)
 points p side [] got = done got
 points p side (at ∷ ps) got = do
   r ← probed p side at
   points p side ps (plus got r)
 
 -- the line through the points of the probes
-unfoldable pub fitted : Plan → Side → Float → List Probe → Look EdgeFit
+unfoldable pub fitted : Plan → Side → Float → List Probe → SampleTree EdgeFit
 fitted p side modulePx ps = points p side ps [] >>= λ got. done (fitEdge (p .settings) (length ps) modulePx got)
 
 -- ---- the edge, from one corner to the next
@@ -92,13 +93,13 @@ edgeLength a b =
     root binary64 (dx ⊗ dx ⊕ dy ⊗ dy)
 
 -- where its corners coincide there is no line, and nothing is counted
-unfoldable pub edge : Plan → List ℕ → Side → Look EdgeFit
+unfoldable pub edge : Plan → List ℕ → Side → SampleTree EdgeFit
 edge p modules side =
     let len = edgeLength (side .from) (side .to) in
-    if len ≺ f1e-9 then done (Weak (stat 0 0 0 false)) else
+    if len ≺ f1e-9 then done (TooFewPoints (stat 0 0 0 false)) else
     fitted p side (len ⊘ float (p .dim)) (probesOf (p .settings) (gridOf (p .dim) modules) (side .edge))
 
 -- all of the above, for a proof that computes with them: to unfold this is to unfold what its line names
 unfoldable pub opened : Unit {0}
-unfolding beside aimed sought probed plus points fitted edgeLength edge
+unfolding pointOnSide probeRay localizeProbe probed plus points fitted edgeLength edge
 opened = tt

@@ -5,7 +5,7 @@ use mathlib.Core.List.{List}
 use lib.ListN.{length, take}
 use lib.Ieee.{Float}
 use Rattle.pixel.specs.declared.EdgePoint.{EdgePoint}
-use Rattle.consts.specs.Consts.{room}
+use Rattle.consts.specs.Consts.{maxEdgePoints}
 use Rattle.fit.specs.Fit.{pointsOf}
 use Rattle.grid.specs.declared.Probes.{Probes}
 use Rattle.peak.specs.declared.Located.{Located}
@@ -16,11 +16,11 @@ storedTo n xs ys ws = pointsOf (take n xs) (take n ys) (take n ws)
 
 -- there is a place for a point of each probe
 pub record Holds (ps : Probes) (xs ys ws : List Float) : Type 0 where
-  pub few : ps .count ≤ room
-  pub whole : length (ps .probes) ≡ room
-  pub xs-too : length xs ≡ room
-  pub ys-too : length ys ≡ room
-  pub ws-too : length ws ≡ room
+  pub few : ps .count ≤ maxEdgePoints
+  pub whole : length (ps .probes) ≡ maxEdgePoints
+  pub xs-too : length xs ≡ maxEdgePoints
+  pub ys-too : length ys ≡ maxEdgePoints
+  pub ws-too : length ws ≡ maxEdgePoints
 
 -- there is room for one more
 pub record Room (n : ℕ) (xs ys ws : List Float) : Type 0 where

@@ -3,25 +3,25 @@ ghost use mathlib.Core.Path.{_≡_};
 ghost use mathlib.Core.List.{[]};
 ghost use Prim.Native.Nat.{_≤_};
 ghost use lib.ListN.{length};
-ghost use Rattle.consts.specs.Consts.{room};
+ghost use Rattle.consts.specs.Consts.{maxEdgePoints};
 ghost use Rattle.sampling.specs.Photographs.{photo};
-ghost use Rattle.look.specs.Run.{state, sampler, Runs};
+ghost use Rattle.sample_tree.specs.Run.{state, sampler, Runs};
 ghost use Rattle.grid.specs.Probes.{held};
-ghost use Rattle.edge.specs.Edge.{beside as besideOf, aimed, sought, points, fitted, edgeLength, edge as edgeOf};
+ghost use Rattle.edge.specs.Edge.{pointOnSide, probeRay, localizeProbe, points, fitted, edgeLength, edge as edgeOf};
 ghost use Rattle.edge.specs.Store.{storedTo, Adds, Room, Holds};
-use consts::ROOM;
+use consts::MAX_EDGE_POINTS;
 use consts::Settings;
 use fit::EdgeFit;
 use fit::EdgeStat;
 use grid::Probe;
 use grid::Probes;
 use homography::PerspectiveTransform;
-use look::Meter;
 use peak::Located;
 use pixel::Direction;
 use pixel::SourcePixel;
 use profile::Localized;
 use profile::Ray;
+use sample_tree::Meter;
 use sampling::Scene;
 
 // What a refinement goes by: the settings, and the label's side in modules and its polarity.
@@ -60,7 +60,7 @@ pub struct Side {
 }
 
 // Where a probe looks: the length of its local module, and the ray there.
-pub struct Aim {
+pub struct ProbeRay {
     pub perp_module_px: f64,
     pub ray: Ray,
 }
@@ -76,8 +76,8 @@ struct Search {
 
 // A point of the unit square, t along an edge, 0 top, 1 right, 2 bottom, else left: at the top and the
 // left `near` from the side, at the other two `far` from the opposite one.
-fn beside(edge: u32, near: f64, far: f64, t: f64) -> SourcePixel
-    ensures { λ r. ⌜ r ≡ besideOf edge near far t ⌝ }
+fn point_on_side(edge: u32, near: f64, far: f64, t: f64) -> SourcePixel
+    ensures { λ r. ⌜ r ≡ pointOnSide edge near far t ⌝ }
 {
     match edge {
         0 => SourcePixel(t, near),
@@ -89,19 +89,19 @@ fn beside(edge: u32, near: f64, far: f64, t: f64) -> SourcePixel
 
 // Where a probe looks. From the point one module further in to the boundary goes outwards; that length is the
 // local module, and half of it the step.
-fn aim_of(plan: Plan, side: Side, probe: Probe) -> Aim
-    ensures { λ r. ⌜ r ≡ aimed plan side probe ⌝ }
+fn probe_ray(plan: Plan, side: Side, probe: Probe) -> ProbeRay
+    ensures { λ r. ⌜ r ≡ probeRay plan side probe ⌝ }
 {
     let map = side.map;
     let inv_dim = 1.0 / plan.dim as f64;
-    let b = beside(side.edge, 0.0, 1.0, probe.t);
-    let i = beside(side.edge, inv_dim, 1.0 - inv_dim, probe.t);
+    let b = point_on_side(side.edge, 0.0, 1.0, probe.t);
+    let i = point_on_side(side.edge, inv_dim, 1.0 - inv_dim, probe.t);
     let coarse = map.map(b.0, b.1);
     let inner = map.map(i.0, i.1);
     let ox = coarse.0 - inner.0;
     let oy = coarse.1 - inner.1;
     let perp_module_px = ieee_root::sqrt(ox * ox + oy * oy);
-    Aim {
+    ProbeRay {
         perp_module_px,
         ray: Ray {
             coarse,
@@ -117,7 +117,7 @@ fn aim_of(plan: Plan, side: Side, probe: Probe) -> Aim
 }
 
 // The point of a probe. Too short a module ends it unread.
-fn probe_edge(
+fn localize_probe(
     settings: Settings,
     bytes: &[u8],
     stride: u32,
@@ -125,9 +125,9 @@ fn probe_edge(
     sheet: &mut [u8],
     copy: &mut [u8],
     meter: Meter,
-    aim: Aim,
+    aim: ProbeRay,
 ) -> Localized
-    ensures { λ r. ⌜ Runs (sampler scene (photo (now (bytes .entry)) stride)) (sought settings aim) (r .located)
+    ensures { λ r. ⌜ Runs (sampler scene (photo (now (bytes .entry)) stride)) (localizeProbe settings aim) (r .located)
         (state (now (sheet .entry)) (now (copy .entry)) meter)
         (state (now (sheet .exit)) (now (copy .exit)) (r .meter)) ⌝ }
 {
@@ -190,8 +190,8 @@ fn find_points(
     let mut found = Found { count: 0, meter };
     let mut i: usize = 0;
     while i < n {
-        let aim = aim_of(plan, side, list[i]);
-        let run = probe_edge(
+        let aim = probe_ray(plan, side, list[i]);
+        let run = localize_probe(
             settings,
             bytes,
             search.task.stride,
@@ -219,15 +219,15 @@ fn fit_probes(
     meter: Meter,
     module_px: f64,
 ) -> EdgeRun
-    requires { ⌜ (search .probes .count ≤ room) × (length (search .probes .probes) ≡ room) ⌝ }
+    requires { ⌜ (search .probes .count ≤ maxEdgePoints) × (length (search .probes .probes) ≡ maxEdgePoints) ⌝ }
     ensures { λ r. ⌜ Runs (sampler (search .task .scene) (photo (now (bytes .entry)) (search .task .stride)))
         (fitted (search .task .plan) (search .side) «module_px» (held (search .probes))) (r .fit)
         (state (now (sheet .entry)) (now (copy .entry)) meter)
         (state (now (sheet .exit)) (now (copy .exit)) (r .meter)) ⌝ }
 {
-    let mut xs = [0.0; ROOM];
-    let mut ys = [0.0; ROOM];
-    let mut weights = [0.0; ROOM];
+    let mut xs = [0.0; MAX_EDGE_POINTS];
+    let mut ys = [0.0; MAX_EDGE_POINTS];
+    let mut weights = [0.0; MAX_EDGE_POINTS];
     let found = find_points(
         search,
         bytes,
@@ -287,7 +287,7 @@ pub fn refine_edge(
             valid: false,
         };
         return EdgeRun {
-            fit: EdgeFit::Weak(none),
+            fit: EdgeFit::TooFewPoints(none),
             meter,
         };
     }

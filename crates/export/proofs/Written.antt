@@ -7,7 +7,7 @@ use Rattle.corners.specs.declared.Answer.{Answer}
 use Rattle.refine.specs.declared.Request.{Request}
 use Rattle.refine.specs.Refine.{Photograph}
 use Rattle.marking.specs.Marking.{Marks}
-use Rattle.answers.specs.Answers.{Written}
+use Rattle.c_answers.specs.Answers.{Written}
 use Rattle.export.specs.Calls.{WrittenMarked}
 
 -- what is written of an answer is written of its equal

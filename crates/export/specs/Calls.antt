@@ -9,8 +9,8 @@ use Rattle.sampling.specs.declared.View.{View}
 use Rattle.refine.specs.declared.Request.{Request}
 use Rattle.refine.specs.Refine.{Photograph}
 use Rattle.marking.specs.Marking.{refineMarking, sheetAfter, copyAfter}
-use Rattle.lent.specs.Lent.{workingOf}
-use Rattle.answers.specs.Answers.{Written}
+use Rattle.c_lists.specs.Lent.{workingOf}
+use Rattle.c_answers.specs.Answers.{Written}
 
 -- what is asked by what is lent
 abbrev pub lentRequest : (width height dim : ℕ) (sx sy : Float) (corners : List Float) (inverted : Bool) → View → Request

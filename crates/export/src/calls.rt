@@ -2,7 +2,7 @@
 ghost use mathlib.Core.Path.{_≡_};
 ghost use Rattle.sampling.specs.declared.View.the-variants.{Plain};
 ghost use Rattle.refine.specs.Refine.{photograph, refine};
-ghost use Rattle.answers.specs.Answers.{Written};
+ghost use Rattle.c_answers.specs.Answers.{Written};
 ghost use Rattle.export.specs.Calls.{lentRequest, WrittenMarked};
 use refine::Request;
 use sampling::View;
@@ -26,7 +26,7 @@ pub(crate) fn request_of(
         dim,
         sx,
         sy,
-        corners: lent::working_of(corners),
+        corners: c_lists::working_of(corners),
         inverted,
         view,
         settings: consts::defaults(),
@@ -54,7 +54,7 @@ pub extern "C" fn trufolmesca_refine_corners(
 {
     let request = request_of(width, height, dim, sx, sy, corners, inverted, View::Plain);
     let a = refine::refine_corners(bytes, stride, modules, request);
-    answers::put_answer(a, places, counts)
+    c_answers::put_answer(a, places, counts)
 }
 
 // Marked: sheet and copy are lent width × height bytes or more, in rows of width bytes.
@@ -82,5 +82,5 @@ pub extern "C" fn trufolmesca_refine_corners_marking(
 {
     let request = request_of(width, height, dim, sx, sy, corners, inverted, View::Plain);
     let a = marking::refine_corners_marking(bytes, stride, modules, request, sheet, copy);
-    answers::put_answer(a, places, counts)
+    c_answers::put_answer(a, places, counts)
 }

@@ -10,9 +10,9 @@ ghost use Rattle.camera.specs.Camera.{cameraAnswer};
 ghost use Rattle.homography.specs.Homography.{squareToQuad, quadToQuad, mapAnswer, mapPoint, scaled, inverse, composed};
 ghost use Rattle.line.specs.Line.{fitLine, lineAnswer, crossing, crossAnswer};
 ghost use Rattle.profile.specs.Profile.{localizeEdgePoint};
-ghost use Rattle.lent.specs.Lent.{quadOf, mapOf, lineOf, cameraOf, viewOf, borderOf};
-ghost use Rattle.buffers.specs.Buffers.{withPlace, withPoint, withLine, withMap};
-ghost use Rattle.leaves.specs.Leaves.{lentScene, lentRay};
+ghost use Rattle.c_lists.specs.Lent.{quadOf, mapOf, lineOf, cameraOf, viewOf, borderOf};
+ghost use Rattle.c_buffers.specs.Buffers.{withPlace, withPoint, withLine, withMap};
+ghost use Rattle.c_leaves.specs.Leaves.{lentScene, lentRay};
 
 // ---- sampling.rs
 
@@ -32,7 +32,7 @@ pub extern "C" fn trufolmesca_sample_bilinear(
     ensures { λ _. ⌜ now (value .exit) ≡ set (now (value .entry)) 0
         (sampleBilinear (now (bytes .entry)) width height stride x y (borderOf border constant) .luma) ⌝ }
 {
-    leaves::sample_bilinear(bytes, width, height, stride, x, y, border, constant, value)
+    c_leaves::sample_bilinear(bytes, width, height, stride, x, y, border, constant, value)
 }
 
 // ---- camera.rs
@@ -48,7 +48,7 @@ pub extern "C" fn trufolmesca_rectified_to_source(
     ensures { λ r. ⌜ r ≡ cameraAnswer (cameraOf (now (camera .entry)) lens) (source x y) .number ⌝ }
     ensures { λ _. ⌜ now (place .exit) ≡ withPlace (cameraAnswer (cameraOf (now (camera .entry)) lens) (source x y) .place) (now (place .entry)) ⌝ }
 {
-    leaves::rectified_to_source(camera, lens, x, y, place)
+    c_leaves::rectified_to_source(camera, lens, x, y, place)
 }
 
 // ---- homography.rs
@@ -58,7 +58,7 @@ pub extern "C" fn trufolmesca_square_to_quad(corners: &[f64], map: &mut [f64]) -
     ensures { λ r. ⌜ r ≡ mapAnswer (squareToQuad (quadOf (now (corners .entry)))) .number ⌝ }
     ensures { λ _. ⌜ now (map .exit) ≡ withMap (mapAnswer (squareToQuad (quadOf (now (corners .entry)))) .map) (now (map .entry)) ⌝ }
 {
-    leaves::square_to_quad(corners, map)
+    c_leaves::square_to_quad(corners, map)
 }
 
 #[no_mangle]
@@ -67,28 +67,28 @@ pub extern "C" fn trufolmesca_quad_to_quad(from: &[f64], to: &[f64], map: &mut [
     ensures { λ _. ⌜ now (map .exit) ≡ withMap (mapAnswer (quadToQuad (quadOf (now (from .entry))) (quadOf (now (to .entry)))) .map)
         (now (map .entry)) ⌝ }
 {
-    leaves::quad_to_quad(from, to, map)
+    c_leaves::quad_to_quad(from, to, map)
 }
 
 #[no_mangle]
 pub extern "C" fn trufolmesca_map(map: &[f64], u: f64, v: f64, place: &mut [f64])
     ensures { λ _. ⌜ now (place .exit) ≡ withPlace (mapPoint (mapOf (now (map .entry))) u v) (now (place .entry)) ⌝ }
 {
-    leaves::map(map, u, v, place);
+    c_leaves::map(map, u, v, place);
 }
 
 #[no_mangle]
 pub extern "C" fn trufolmesca_scaled(sx: f64, sy: f64, map: &mut [f64])
     ensures { λ _. ⌜ now (map .exit) ≡ withMap (scaled sx sy) (now (map .entry)) ⌝ }
 {
-    leaves::scaled(sx, sy, map);
+    c_leaves::scaled(sx, sy, map);
 }
 
 #[no_mangle]
 pub extern "C" fn trufolmesca_inverse(map: &[f64], out: &mut [f64])
     ensures { λ _. ⌜ now (out .exit) ≡ withMap (inverse (mapOf (now (map .entry)))) (now (out .entry)) ⌝ }
 {
-    leaves::inverse(map, out);
+    c_leaves::inverse(map, out);
 }
 
 // The inner map first, and the outer one after it.
@@ -96,7 +96,7 @@ pub extern "C" fn trufolmesca_inverse(map: &[f64], out: &mut [f64])
 pub extern "C" fn trufolmesca_then(inner: &[f64], outer: &[f64], out: &mut [f64])
     ensures { λ _. ⌜ now (out .exit) ≡ withMap (composed (mapOf (now (inner .entry))) (mapOf (now (outer .entry)))) (now (out .entry)) ⌝ }
 {
-    leaves::then(inner, outer, out);
+    c_leaves::then(inner, outer, out);
 }
 
 // ---- line.rs
@@ -112,7 +112,7 @@ pub extern "C" fn trufolmesca_fit_line_tls_weighted(
     ensures { λ _. ⌜ now (line .exit) ≡ withLine (lineAnswer (fitLine (now (xs .entry)) (now (ys .entry)) (now (weights .entry))) .line)
         (now (line .entry)) ⌝ }
 {
-    leaves::fit_line_tls_weighted(xs, ys, weights, line)
+    c_leaves::fit_line_tls_weighted(xs, ys, weights, line)
 }
 
 #[no_mangle]
@@ -121,7 +121,7 @@ pub extern "C" fn trufolmesca_intersect_lines(a: &[f64], b: &[f64], place: &mut 
     ensures { λ _. ⌜ now (place .exit) ≡ withPlace (crossAnswer (crossing (lineOf (now (a .entry))) (lineOf (now (b .entry)))) .place)
         (now (place .entry)) ⌝ }
 {
-    leaves::intersect_lines(a, b, place)
+    c_leaves::intersect_lines(a, b, place)
 }
 
 // ---- refine.rs, `localize_edge_point`
@@ -147,7 +147,7 @@ pub extern "C" fn trufolmesca_localize_edge_point(
         (lentScene width height Plain)
         (lentRay «coarse_x» «coarse_y» «normal_x» «normal_y» step inverted «inward_differs») .point) (now (point .entry)) ⌝ }
 {
-    leaves::localize_edge_point(
+    c_leaves::localize_edge_point(
         bytes,
         width,
         height,
@@ -186,7 +186,7 @@ pub extern "C" fn trufolmesca_localize_edge_point_mapped(
         (lentScene width height (viewOf (now (camera .entry)) lens))
         (lentRay «coarse_x» «coarse_y» «normal_x» «normal_y» step inverted «inward_differs») .point) (now (point .entry)) ⌝ }
 {
-    leaves::localize_edge_point_mapped(
+    c_leaves::localize_edge_point_mapped(
         bytes,
         width,
         height,

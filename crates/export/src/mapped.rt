@@ -1,7 +1,7 @@
 // The refinement calls over the photograph seen through a camera.
 ghost use Rattle.refine.specs.Refine.{photograph, refine};
-ghost use Rattle.lent.specs.Lent.{viewOf};
-ghost use Rattle.answers.specs.Answers.{Written};
+ghost use Rattle.c_lists.specs.Lent.{viewOf};
+ghost use Rattle.c_answers.specs.Answers.{Written};
 ghost use Rattle.export.specs.Calls.{lentRequest, WrittenMarked};
 
 #[no_mangle]
@@ -25,10 +25,10 @@ pub extern "C" fn trufolmesca_refine_corners_mapped(
         (now (modules .entry)) (photograph (now (bytes .entry)) stride)) r
         (now (places .entry)) (now (places .exit)) (now (counts .entry)) (now (counts .exit)) ⌝ }
 {
-    let view = lent::view_of(camera, lens);
+    let view = c_lists::view_of(camera, lens);
     let request = crate::calls::request_of(width, height, dim, sx, sy, corners, inverted, view);
     let a = refine::refine_corners_mapped(bytes, stride, modules, request);
-    answers::put_answer(a, places, counts)
+    c_answers::put_answer(a, places, counts)
 }
 
 // Marked: sheet and copy are lent width × height bytes or more, in rows of width bytes.
@@ -56,8 +56,8 @@ pub extern "C" fn trufolmesca_refine_corners_mapped_marking(
         (now (places .entry)) (now (places .exit)) (now (counts .entry)) (now (counts .exit))
         (now (sheet .entry)) (now (sheet .exit)) (now (copy .entry)) (now (copy .exit)) ⌝ }
 {
-    let view = lent::view_of(camera, lens);
+    let view = c_lists::view_of(camera, lens);
     let request = crate::calls::request_of(width, height, dim, sx, sy, corners, inverted, view);
     let a = marking::refine_corners_mapped_marking(bytes, stride, modules, request, sheet, copy);
-    answers::put_answer(a, places, counts)
+    c_answers::put_answer(a, places, counts)
 }

@@ -7,7 +7,7 @@ use native.Mathlib.Omega.{arith}
 use lib.Dec.{ltb}
 use lib.ListN.{length}
 use lib.Ieee.{Float}
-use Rattle.ieee.proofs.Branches.{either}
+use Rattle.prelude.proofs.Branches.{either}
 use Rattle.consts.specs.declared.Settings.{Settings}
 use Rattle.pixel.specs.declared.EdgePoint.{EdgePoint}
 use Rattle.line.specs.declared.Line2.{Line2}
@@ -16,8 +16,8 @@ use Rattle.line.specs.declared.Fitted.the-variants.{Along, Refused}
 use Rattle.line.specs.Line.{finiteTo}
 use Rattle.fit.specs.declared.EdgeStat.{EdgeStat}
 use Rattle.fit.specs.declared.EdgeFit.{EdgeFit}
-use Rattle.fit.specs.declared.EdgeFit.the-variants.{Stops, Weak, Lined}
-use Rattle.fit.specs.Fit.{stat, kept, lined, refit, trimmed, firstFit, fitEdge, residuals, threshold, fitPoints}
+use Rattle.fit.specs.declared.EdgeFit.the-variants.{Refusal, TooFewPoints, LineFit}
+use Rattle.fit.specs.Fit.{stat, inliers, lined, refit, rejectOutliers, firstFit, fitEdge, residuals, threshold, fitPoints}
 use Rattle.fit.proofs.Keeping.{kept-fewer}
 
 -- at most n probes, and no more points than probes
@@ -30,9 +30,9 @@ none-counted n = record { probed = omega arith; points = omega arith }
 
 -- the counts of an edge that does not end the round
 pub data EdgeCounted (n : ℕ) : EdgeFit → Type 0 where
-  stopped : {number : ℕ} → EdgeCounted n (Stops number)
-  counted : {c : EdgeStat} → Counted n c → EdgeCounted n (Weak c)
-  counted-line : {l : Line2} {c : EdgeStat} → Counted n c → EdgeCounted n (Lined l c)
+  stopped : {number : ℕ} → EdgeCounted n (Refusal number)
+  counted : {c : EdgeStat} → Counted n c → EdgeCounted n (TooFewPoints c)
+  counted-line : {l : Line2} {c : EdgeStat} → Counted n c → EdgeCounted n (LineFit l c)
 
 lined-counted : {n : ℕ} (c : EdgeStat) (f : Fitted) → Counted n c → EdgeCounted n (lined c f)
 unfolding lined
@@ -49,13 +49,13 @@ module _ (n : ℕ) (s : Settings) (probed : ℕ) (few : probed ≤ n) where
 
   module _ (modulePx : Float) (ps : List EdgePoint) (found : length ps ≤ probed) where
     first-counted : (f : Fitted) → EdgeCounted n (firstFit s probed modulePx ps f)
-    unfolding firstFit trimmed
+    unfolding firstFit rejectOutliers
     first-counted (Refused number) = stopped
     first-counted (Along l) =
         let rs = residuals l ps in
         either (EdgeCounted n) (not (finiteTo (length rs) rs))
         stopped
-        (refit-counted (length ps) (kept (threshold s modulePx rs) rs ps) found (kept-fewer (threshold s modulePx rs) rs ps))
+        (refit-counted (length ps) (inliers (threshold s modulePx rs) rs ps) found (kept-fewer (threshold s modulePx rs) rs ps))
 
     -- of a fit to the points of so many probes
     pub fit-counted : EdgeCounted n (fitEdge s probed modulePx ps)

@@ -8,9 +8,10 @@ use lib.ListN.{length, take}
 use lib.Seq.{length-take-le, getD-take, ext-getD}
 use lib.Ieee.{Float, nan}
 use borrow.Author.Tests.{lt-ltb, le-ltb}
+use Rattle.prelude.specs.Prelude.{if_then_else_}
 use Rattle.number.specs.Numbers as number
-use Rattle.ieee.specs.Floats.{if_then_else_, _≼_}
-use Rattle.consts.specs.Consts.{room}
+use Rattle.ieee.specs.Floats.{_≼_}
+use Rattle.consts.specs.Consts.{maxEdgePoints}
 use Rattle.consts.specs.declared.Settings.{Settings}
 use Rattle.pixel.specs.Pixels.{source, edgePoint}
 use Rattle.pixel.specs.declared.EdgePoint.{EdgePoint}
@@ -18,9 +19,9 @@ use Rattle.line.specs.Sums.{at}
 use Rattle.line.specs.Line.{fitLine, finiteTo}
 use Rattle.line.specs.declared.Line2.{Line2}
 use Rattle.line.specs.declared.Fitted.the-variants.{Along}
-use Rattle.fit.specs.declared.EdgeFit.the-variants.{Stops, Weak}
+use Rattle.fit.specs.declared.EdgeFit.the-variants.{Refusal, TooFewPoints}
 use Rattle.fit.specs.Lent.{Paired, Least}
-use Rattle.fit.specs.Fit.{pointsOf, fitPoints, residual, residuals, kept, stat, lined, refit, trimmed, firstFit, fitEdge, threshold}
+use Rattle.fit.specs.Fit.{pointsOf, fitPoints, residual, residuals, inliers, stat, lined, refit, rejectOutliers, firstFit, fitEdge, threshold}
 use Rattle.fit.proofs.Keeping.{kept-fewer}
 
 -- ---- three lists of one length, element by element
@@ -89,7 +90,7 @@ take-points (suc m) (suc n) (x ∷ xs) (y ∷ ys) (w ∷ ws) h =
       met = λ a b c d. h .met (omega arith) (omega arith) (omega arith) (omega arith);
     }))
 
-pub paired-taken : (xs ys ws : List Float) (n : ℕ) → Least room (length xs) (length ys) (length ws) n → Paired (take n xs) (take n ys) (take n ws)
+pub paired-taken : (xs ys ws : List Float) (n : ℕ) → Least maxEdgePoints (length xs) (length ys) (length ws) n → Paired (take n xs) (take n ys) (take n ws)
 paired-taken xs ys ws n h =
     record {
       ys-too = length-take-le n ys (h .under-c) ∙ sym (length-take-le n xs (h .under-b));
@@ -99,26 +100,26 @@ paired-taken xs ys ws n h =
 
 -- ---- the points that are kept are those of the x, y and weights that are kept
 
-kept-alike : (most : Float) (rs : List Float) {xs ys ws : List Float} → Alike xs ys ws → Alike (kept most rs xs) (kept most rs ys) (kept most rs ws)
-unfolding kept
+kept-alike : (most : Float) (rs : List Float) {xs ys ws : List Float} → Alike xs ys ws → Alike (inliers most rs xs) (inliers most rs ys) (inliers most rs ws)
+unfolding inliers
 kept-alike most [] a = none
 kept-alike most (r ∷ rs) none = none
 kept-alike most (r ∷ rs) (more {x} {y} {w} {xs} {ys} {ws} a) = by (r ≼ most) (kept-alike most rs a)
   where
-    by : (b : Bool) → Alike (kept most rs xs) (kept most rs ys) (kept most rs ws) →
-        Alike (if b then x ∷ kept most rs xs else kept most rs xs) (if b then y ∷ kept most rs ys else kept most rs ys) (if b then w ∷ kept most rs ws else kept most rs ws)
+    by : (b : Bool) → Alike (inliers most rs xs) (inliers most rs ys) (inliers most rs ws) →
+        Alike (if b then x ∷ inliers most rs xs else inliers most rs xs) (if b then y ∷ inliers most rs ys else inliers most rs ys) (if b then w ∷ inliers most rs ws else inliers most rs ws)
     by true i = more i
     by false i = i
 
-kept-points : (most : Float) (rs : List Float) {xs ys ws : List Float} → Alike xs ys ws → pointsOf (kept most rs xs) (kept most rs ys) (kept most rs ws) ≡ kept most rs (pointsOf xs ys ws)
-unfolding kept pointsOf
+kept-points : (most : Float) (rs : List Float) {xs ys ws : List Float} → Alike xs ys ws → pointsOf (inliers most rs xs) (inliers most rs ys) (inliers most rs ws) ≡ inliers most rs (pointsOf xs ys ws)
+unfolding inliers pointsOf
 kept-points most [] a = refl
 kept-points most (r ∷ rs) none = refl
 kept-points most (r ∷ rs) (more {x} {y} {w} {xs} {ys} {ws} a) = by (r ≼ most) (kept-points most rs a)
   where
-    by : (b : Bool) → pointsOf (kept most rs xs) (kept most rs ys) (kept most rs ws) ≡ kept most rs (pointsOf xs ys ws) →
-        pointsOf (if b then x ∷ kept most rs xs else kept most rs xs) (if b then y ∷ kept most rs ys else kept most rs ys) (if b then w ∷ kept most rs ws else kept most rs ws)
-        ≡ (if b then edgePoint (source x y) w ∷ kept most rs (pointsOf xs ys ws) else kept most rs (pointsOf xs ys ws))
+    by : (b : Bool) → pointsOf (inliers most rs xs) (inliers most rs ys) (inliers most rs ws) ≡ inliers most rs (pointsOf xs ys ws) →
+        pointsOf (if b then x ∷ inliers most rs xs else inliers most rs xs) (if b then y ∷ inliers most rs ys else inliers most rs ys) (if b then w ∷ inliers most rs ws else inliers most rs ws)
+        ≡ (if b then edgePoint (source x y) w ∷ inliers most rs (pointsOf xs ys ws) else inliers most rs (pointsOf xs ys ws))
     by true i = ap (λ (l : List EdgePoint). edgePoint (source x y) w ∷ l) i
     by false i = i
 
@@ -144,7 +145,7 @@ module _ (xs ys ws : List Float) (h : Paired xs ys ws) where
       (λ i q. getD-take (length xs) v i nan (omega arith) ∙ inv i (omega arith) ∙ sym (residual-at l i lent (omega arith)))
 
   module _ (s : Settings) (probed : ℕ) where
-    pub refit-few : (all : ℕ) → length xs < s .«min_edge_points» → Weak (stat probed (length xs) (all - length xs) false) ≡ refit s probed all (pointsOf xs ys ws)
+    pub refit-few : (all : ℕ) → length xs < s .«min_edge_points» → TooFewPoints (stat probed (length xs) (all - length xs) false) ≡ refit s probed all (pointsOf xs ys ws)
     unfolding refit
     refit-few all k = rw (count, lt-ltb (length xs) (s .«min_edge_points») k)
 
@@ -152,7 +153,7 @@ module _ (xs ys ws : List Float) (h : Paired xs ys ws) where
     unfolding refit
     refit-more all k = rw (count, le-ltb (length xs) (s .«min_edge_points») k, ← fit-points)
 
-    pub edge-few : (m : Float) → length xs < s .«min_edge_points» → Weak (stat probed 0 0 false) ≡ fitEdge s probed m (pointsOf xs ys ws)
+    pub edge-few : (m : Float) → length xs < s .«min_edge_points» → TooFewPoints (stat probed 0 0 false) ≡ fitEdge s probed m (pointsOf xs ys ws)
     unfolding fitEdge
     edge-few m k = rw (count, lt-ltb (length xs) (s .«min_edge_points») k)
 
@@ -161,17 +162,17 @@ module _ (xs ys ws : List Float) (h : Paired xs ys ws) where
     edge-more m k = rw (count, le-ltb (length xs) (s .«min_edge_points») k, ← fit-points)
 
     module _ (m : Float) (l : Line2) (rs : List Float) (b : Bool) (e : rs ≡ residuals l (pointsOf xs ys ws)) (f : b ≡ finiteTo (length rs) rs) where
-      pub trim-stops : not b ≡ true → Stops number.overflow ≡ firstFit s probed m (pointsOf xs ys ws) (Along l)
-      unfolding firstFit trimmed
+      pub trim-stops : not b ≡ true → Refusal number.overflow ≡ firstFit s probed m (pointsOf xs ys ws) (Along l)
+      unfolding firstFit rejectOutliers
       trim-stops k = rw (← e, ← f, k)
 
-      pub trim-rest : not b ≡ false → refit s probed (length xs) (kept (threshold s m rs) rs (pointsOf xs ys ws)) ≡ firstFit s probed m (pointsOf xs ys ws) (Along l)
-      unfolding firstFit trimmed
+      pub trim-rest : not b ≡ false → refit s probed (length xs) (inliers (threshold s m rs) rs (pointsOf xs ys ws)) ≡ firstFit s probed m (pointsOf xs ys ws) (Along l)
+      unfolding firstFit rejectOutliers
       trim-rest k = rw (← e, ← f, k, count)
 
 -- ---- what the arrays hold, in place of the lists that they hold
 
-module _ (most : Float) (rs xs ys ws : List Float) (h : Paired xs ys ws) (a b d : List Float) (p : a ≡ kept most rs xs) (q : b ≡ kept most rs ys) (r : d ≡ kept most rs ws) where
+module _ (most : Float) (rs xs ys ws : List Float) (h : Paired xs ys ws) (a b d : List Float) (p : a ≡ inliers most rs xs) (q : b ≡ inliers most rs ys) (r : d ≡ inliers most rs ws) where
   pub kept-lent : Paired a b d
   kept-lent =
       let k = same-lengths (kept-alike most rs (lent xs ys ws h)) in
@@ -180,5 +181,5 @@ module _ (most : Float) (rs xs ys ws : List Float) (h : Paired xs ys ws) (a b d 
   pub kept-lent-fewer : length a ≤ length xs
   kept-lent-fewer = rw p (kept-fewer most rs xs)
 
-  pub refit-lent : (s : Settings) (probed : ℕ) → refit s probed (length xs) (pointsOf a b d) ≡ refit s probed (length xs) (kept most rs (pointsOf xs ys ws))
+  pub refit-lent : (s : Settings) (probed : ℕ) → refit s probed (length xs) (pointsOf a b d) ≡ refit s probed (length xs) (inliers most rs (pointsOf xs ys ws))
   refit-lent s probed = rw (p, q, r) (ap (refit s probed (length xs)) (kept-points most rs (lent xs ys ws h)))

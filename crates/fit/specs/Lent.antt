@@ -6,15 +6,15 @@ use mathlib.Core.List.{List}
 use lib.ListN.{length, take}
 use lib.Ieee.{Float}
 use Rattle.ieee.specs.Floats.{_≺_}
-use Rattle.consts.specs.Consts.{room}
+use Rattle.consts.specs.Consts.{maxEdgePoints}
 use Rattle.line.specs.Sums.{at}
-use Rattle.fit.specs.Fit.{kept}
+use Rattle.fit.specs.Fit.{inliers}
 
 -- as many x as y and weights, and no more than an array holds
 pub record Paired (xs ys ws : List Float) : Type 0 where
   pub ys-too : length ys ≡ length xs
   pub weights-too : length ws ≡ length xs
-  pub hold : length xs ≤ room
+  pub hold : length xs ≤ maxEdgePoints
 
 -- p is where the value at i belongs among those before it: behind those that it is not below
 pub record Place (values : List Float) (i p : ℕ) : Type 0 where
@@ -25,7 +25,7 @@ pub record Place (values : List Float) (i p : ℕ) : Type 0 where
 -- the first n of `out` are those of xs whose residual is at most the threshold
 pub record Compacted (most : Float) (rs xs out : List Float) (n : ℕ) : Type 0 where
   pub few : n ≤ length xs
-  pub front : take n out ≡ kept most rs xs
+  pub front : take n out ≡ inliers most rs xs
 
 -- n is the lesser of the two
 pub record Lesser (a b n : ℕ) : Type 0 where

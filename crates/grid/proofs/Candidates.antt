@@ -10,7 +10,7 @@ use mathlib.Core.Logic.{_⊎_, inl, inr, ⊎-elim}
 use mathlib.Core.List.{List, [], _∷_, _++_, append-assoc, append-nil}
 use lib.ListN.{length, length-append, drop}
 use lib.Seq.{drop-append-add, drop-nil}
-use Rattle.ieee.specs.Floats.{if_then_else_}
+use Rattle.prelude.specs.Prelude.{if_then_else_}
 use Rattle.consts.specs.declared.Settings.{Settings}
 use Rattle.grid.specs.Grids.{Grid, borderDark}
 use Rattle.grid.specs.Probes.{nearEnd, candidateAt, moduleCandidates, candidatesFrom, candidates}

@@ -6,25 +6,25 @@ use native.Mathlib.Nat.{min-le-left, min-le-right}
 use borrow.Author.Tests.{ltb-false}
 use lib.Dec.{ltb}
 use lib.ListN.{length, length-take}
-use Rattle.ieee.proofs.Branches.{by-test}
-use Rattle.consts.specs.Consts.{room}
+use Rattle.prelude.proofs.Branches.{by-test}
+use Rattle.consts.specs.Consts.{maxEdgePoints}
 use Rattle.consts.specs.declared.Settings.{Settings}
 use Rattle.grid.specs.declared.Probe.{Probe}
 use Rattle.grid.specs.Grids.{Grid}
-use Rattle.grid.specs.Probes.{thinned, probesOf}
+use Rattle.grid.specs.Probes.{decimated, probesOf}
 
-few-thinned : (most : ℕ) (ps : List Probe) → length (thinned most ps) ≤ most
-unfolding thinned
+few-thinned : (most : ℕ) (ps : List Probe) → length (decimated most ps) ≤ most
+unfolding decimated
 few-thinned most ps = by-test (ltb most (length ps))
     (λ more. rw (more, length-take) (min-le-left most _))
     (λ enough. rw enough (ltb-false most (length ps) enough))
 
 -- the most probes that an edge can have
 abbrev pub probeLimit : Settings → ℕ
-probeLimit s = min (s .«max_points_per_edge») room
+probeLimit s = min (s .«max_points_per_edge») maxEdgePoints
 
-pub limit-in-room : (s : Settings) → probeLimit s ≤ room
-limit-in-room s = min-le-right (s .«max_points_per_edge») room
+pub limit-in-room : (s : Settings) → probeLimit s ≤ maxEdgePoints
+limit-in-room s = min-le-right (s .«max_points_per_edge») maxEdgePoints
 
 pub few-probes : (s : Settings) (g : Grid) (e : ℕ) → length (probesOf s g e) ≤ probeLimit s
 unfolding probesOf

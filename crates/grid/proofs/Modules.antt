@@ -10,10 +10,8 @@ use lib.Dec.{leb}
 use lib.ListN.{length, getD, drop}
 use lib.Seq.{drop-cons}
 use borrow.Author.Tests.{le-leb, leb-true}
+use Rattle.prelude.proofs.Lists.{one-less}
 use Rattle.grid.specs.Grids.{bits}
-
-one-less : (n i : ℕ) → i < n → n - i ≡ suc (n - (i + 1))
-one-less n i l = omega arith
 
 pub bits-start : (n : ℕ) (ms : List ℕ) → bits n ms ≡ bits (n - 0) (drop 0 ms)
 bits-start n ms = rw sub-zero

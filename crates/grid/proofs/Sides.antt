@@ -7,11 +7,11 @@ use mathlib.Core.Bool.{Bool, true, false}
 use mathlib.Core.List.{List}
 use lib.Dec.{eqb}
 use lib.ListN.{getD}
-use Rattle.ieee.specs.Floats.{if_then_else_}
+use Rattle.prelude.specs.Prelude.{if_then_else_}
 use Rattle.pixel.proofs.Places.{row-most}
 use Rattle.grid.specs.Grids.{gridOf, bySide, dark, edgeDark, borderDark, inwardDark}
-use Rattle.grid.specs.Places.{startOf, strideOf, sideOf, IsSide, darkAt}
-use Rattle.grid.specs.declared.Side.{Side}
+use Rattle.grid.specs.Places.{startOf, strideOf, layoutOf, IsLayout, darkAt}
+use Rattle.grid.specs.declared.EdgeLayout.{EdgeLayout}
 
 -- what holds of each edge holds of the edge at hand
 each-side : {A : Type 0} (e : ℕ) (P : A → ℕ → ℕ → Type 0) {a b c d : A} {i j k l m n o p : ℕ} → P a i m → P b j n → P c k o → P d l p
@@ -52,15 +52,15 @@ edge-lies dim e m depth ms p q l =
     (along-row ms m ((dim - 1 - depth) * dim) (place-fits (dim - 1 - depth) dim m far p q))
     (along-column ms m depth dim (place-fits m dim depth q p l))
 
-pub is-side : (dim e : ℕ) {r : Side} → r ≡ sideOf dim e → IsSide r
-unfolding sideOf
-is-side dim e h = subst IsSide (sym h) refl
+pub is-side : (dim e : ℕ) {r : EdgeLayout} → r ≡ layoutOf dim e → IsLayout r
+unfolding layoutOf
+is-side dim e h = subst IsLayout (sym h) refl
 
-module _ (r : Side) (is : IsSide r) (m : ℕ) (ms : List ℕ) (p : r .dim ≤ 4294967295) (q : m ≤ 4294967295) where
+module _ (r : EdgeLayout) (is : IsLayout r) (m : ℕ) (ms : List ℕ) (p : r .dim ≤ 4294967295) (q : m ≤ 4294967295) where
   pub border-lies : Lies ms m (borderDark (gridOf (r .dim) ms) (r .edge) m) (r .border) (r .step)
-  unfolding sideOf
-  border-lies = subst (λ (o : Side). Lies ms m (borderDark (gridOf (r .dim) ms) (r .edge) m) (o .border) (o .step)) (sym is) (edge-lies (r .dim) (r .edge) m 0 ms p q (omega arith))
+  unfolding layoutOf
+  border-lies = subst (λ (o : EdgeLayout). Lies ms m (borderDark (gridOf (r .dim) ms) (r .edge) m) (o .border) (o .step)) (sym is) (edge-lies (r .dim) (r .edge) m 0 ms p q (omega arith))
 
   pub inward-lies : Lies ms m (inwardDark (gridOf (r .dim) ms) (r .edge) m) (r .inward) (r .step)
-  unfolding sideOf
-  inward-lies = subst (λ (o : Side). Lies ms m (inwardDark (gridOf (r .dim) ms) (r .edge) m) (o .inward) (o .step)) (sym is) (edge-lies (r .dim) (r .edge) m 1 ms p q (omega arith))
+  unfolding layoutOf
+  inward-lies = subst (λ (o : EdgeLayout). Lies ms m (inwardDark (gridOf (r .dim) ms) (r .edge) m) (o .inward) (o .step)) (sym is) (edge-lies (r .dim) (r .edge) m 1 ms p q (omega arith))

@@ -11,7 +11,7 @@ use lib.Seq.{drop-cons, drop-set-lt, take-all, take-nil, take-suc-set}
 use borrow.Author.Tests.{lt-ltb, le-ltb, ne-eqb}
 use Rattle.consts.specs.declared.Settings.{Settings}
 use Rattle.grid.specs.Grids.{Grid}
-use Rattle.grid.specs.Probes.{everyFrom, pitch, thinned, candidates, probesOf, noProbe, Selected}
+use Rattle.grid.specs.Probes.{everyFrom, decimation, decimated, candidates, probesOf, noProbe, Selected}
 use Rattle.grid.specs.Places.{probeAt, onward, Counted, Thins, Sought, Picked}
 use Rattle.grid.specs.declared.Probe.{Probe}
 use Rattle.grid.specs.declared.Probes.{Probes}
@@ -47,28 +47,28 @@ every-next k x xs p = rw zero-mod (ap (λ (l : List Probe). x ∷ l) (every-over
 -- ---- the pitch
 
 pub thins-few : (n most : ℕ) → n ≤ most → Thins n most 1
-unfolding thinned
+unfolding decimated
 thins-few n most l = record { some = omega arith; right = whole }
   where
-    whole : (ps : List Probe) → length ps ≡ n → take most (everyFrom 1 0 ps) ≡ thinned most ps
+    whole : (ps : List Probe) → length ps ≡ n → take most (everyFrom 1 0 ps) ≡ decimated most ps
     whole ps h =
         let fits : length ps ≤ most = omega arith in
         rw (every-one 0 ps, le-ltb most (length ps) fits) (take-all most ps fits)
 
 pub thins-none : (n most : ℕ) → most < n → most ≡ 0 → Thins n most 1
-unfolding thinned
+unfolding decimated
 thins-none n most l z = record { some = omega arith; right = none }
   where
-    none : (ps : List Probe) → length ps ≡ n → take most (everyFrom 1 0 ps) ≡ thinned most ps
+    none : (ps : List Probe) → length ps ≡ n → take most (everyFrom 1 0 ps) ≡ decimated most ps
     none ps h =
         let some : most < length ps = omega arith in
         rw (lt-ltb most (length ps) some, z)
 
 pub thins-many : (n most : ℕ) → most < n → 0 < most → Thins n most ((n + (most - 1)) / most)
-unfolding thinned pitch
+unfolding decimated decimation
 thins-many n most l p = record { some = le-div-iff-mul-le p .1 (omega arith); right = every }
   where
-    every : (ps : List Probe) → length ps ≡ n → take most (everyFrom ((n + (most - 1)) / most) 0 ps) ≡ thinned most ps
+    every : (ps : List Probe) → length ps ≡ n → take most (everyFrom ((n + (most - 1)) / most) 0 ps) ≡ decimated most ps
     every ps h =
         let some : most < length ps = omega arith in
         rw (lt-ltb most (length ps) some, h)
@@ -148,7 +148,7 @@ module _ (s : Settings) (g : Grid) (e k most : ℕ) where
 pub selected : (s : Settings) (g : Grid) (e n most k : ℕ) {r : Probes} → most ≡ min (s .«max_points_per_edge») 64 → Counted s g e n → Thins n most k → Picked s g e k most r → Selected s g e r
 unfolding probesOf
 selected s g e n most k h counted thins picked = record {
-  probes = picked .probes ∙ thins .right (candidates s g e) (sym (counted .all)) ∙ ap (λ (l : ℕ). thinned l (candidates s g e)) h;
+  probes = picked .probes ∙ thins .right (candidates s g e) (sym (counted .all)) ∙ ap (λ (l : ℕ). decimated l (candidates s g e)) h;
   rest = picked .rest;
   fits = omega arith;
   whole = picked .whole;

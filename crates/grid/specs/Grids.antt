@@ -4,7 +4,7 @@ use mathlib.Core.Bool.{Bool, true, _&&_}
 use mathlib.Core.List.{List, [], _∷_}
 use lib.Dec.{leb, eqb}
 use lib.ListN.{getD, length}
-use Rattle.ieee.specs.Floats.{if_then_else_}
+use Rattle.prelude.specs.Prelude.{if_then_else_}
 
 -- one byte a module, by rows; 1 is dark
 pub record Grid : Type 0 where

@@ -6,14 +6,15 @@ use mathlib.Core.List.{List, [], _∷_, _++_}
 use lib.Dec.{eqb}
 use lib.ListN.{length, take, drop, replicate, getD}
 use lib.Ieee.{Float}
-use Rattle.ieee.specs.Floats.{if_then_else_, _⊕_, _⊘_, float}
-use Rattle.consts.specs.Consts.{room}
+use Rattle.prelude.specs.Prelude.{if_then_else_}
+use Rattle.ieee.specs.Floats.{_⊕_, _⊘_, float}
+use Rattle.consts.specs.Consts.{maxEdgePoints}
 use Rattle.consts.specs.declared.Settings.{Settings}
 use Rattle.grid.specs.Grids.{Grid, bySide, borderDark, inwardDark}
-use Rattle.grid.specs.Probes.{candidateAt, candidates, everyFrom, thinned, held, noProbe}
+use Rattle.grid.specs.Probes.{candidateAt, candidates, everyFrom, decimated, held, noProbe}
 use Rattle.grid.specs.declared.Probe.{Probe}
 use Rattle.grid.specs.declared.Probes.{Probes}
-use Rattle.grid.specs.declared.Side.{Side}
+use Rattle.grid.specs.declared.EdgeLayout.{EdgeLayout}
 
 -- ---- where the modules of an edge lie
 
@@ -25,12 +26,12 @@ startOf dim e depth = bySide e (depth * dim) (dim - 1 - depth) ((dim - 1 - depth
 unfoldable pub strideOf : ℕ → ℕ → ℕ
 strideOf dim e = bySide e 1 dim 1 dim
 
-unfoldable pub sideOf : ℕ → ℕ → Side
-sideOf dim e = record { dim = dim; edge = e; border = startOf dim e 0; inward = startOf dim e 1; step = strideOf dim e }
+unfoldable pub layoutOf : ℕ → ℕ → EdgeLayout
+layoutOf dim e = record { dim = dim; edge = e; border = startOf dim e 0; inward = startOf dim e 1; step = strideOf dim e }
 
 -- what stands in a side is that of its edge
-abbrev pub IsSide : Side → Type 0
-IsSide r = r ≡ sideOf (r .dim) (r .edge)
+abbrev pub IsLayout : EdgeLayout → Type 0
+IsLayout r = r ≡ layoutOf (r .dim) (r .edge)
 
 -- whether module m of those that lie a step apart is dark
 unfoldable pub darkAt : List ℕ → ℕ → ℕ → ℕ → Bool
@@ -72,7 +73,7 @@ pub record Counted (s : Settings) (g : Grid) (e n : ℕ) : Type 0 where
 -- to take every k-th of n candidates, up to `most`, is to thin them
 pub record Thins (n most k : ℕ) : Type 0 where
   pub some : 0 < k
-  pub right : (ps : List Probe) → length ps ≡ n → take most (everyFrom k 0 ps) ≡ thinned most ps
+  pub right : (ps : List Probe) → length ps ≡ n → take most (everyFrom k 0 ps) ≡ decimated most ps
 
 -- from a place on, behind so many candidates, the next one is at place r; at the edge's end there is none
 pub record Sought (s : Settings) (g : Grid) (e from skip r : ℕ) : Type 0 where
@@ -82,6 +83,6 @@ pub record Sought (s : Settings) (g : Grid) (e from skip r : ℕ) : Type 0 where
 -- every k-th candidate, up to `most`
 pub record Picked (s : Settings) (g : Grid) (e k most : ℕ) (r : Probes) : Type 0 where
   pub probes : held r ≡ take most (everyFrom k 0 (candidates s g e))
-  pub rest : drop (r .count) (r .probes) ≡ replicate (room - r .count) noProbe
+  pub rest : drop (r .count) (r .probes) ≡ replicate (maxEdgePoints - r .count) noProbe
   pub fits : r .count ≤ most
-  pub whole : length (r .probes) ≡ room
+  pub whole : length (r .probes) ≡ maxEdgePoints

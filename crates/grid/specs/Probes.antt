@@ -6,8 +6,9 @@ use mathlib.Core.List.{List, [], _∷_, _++_}
 use lib.Dec.{ltb, eqb}
 use lib.ListN.{length, take, drop, replicate}
 use lib.Ieee.{Float}
-use Rattle.ieee.specs.Floats.{if_then_else_, _⊕_, _⊖_, _⊘_, _≺_, float, f0}
-use Rattle.consts.specs.Consts.{room}
+use Rattle.prelude.specs.Prelude.{if_then_else_}
+use Rattle.ieee.specs.Floats.{_⊕_, _⊖_, _⊘_, _≺_, float, f0}
+use Rattle.consts.specs.Consts.{maxEdgePoints}
 use Rattle.consts.specs.declared.Settings.{Settings}
 use Rattle.grid.specs.Grids.{Grid, borderDark, inwardDark}
 use Rattle.grid.specs.declared.Probe.{Probe}
@@ -46,17 +47,17 @@ everyFrom k i [] = []
 everyFrom k i (x ∷ xs) = if eqb (i % k) 0 then x ∷ everyFrom k (suc i) xs else everyFrom k (suc i) xs
 
 -- the ceiling of n / most
-unfoldable pub pitch : ℕ → ℕ → ℕ
-pitch n most = (n + (most - 1)) / most
+unfoldable pub decimation : ℕ → ℕ → ℕ
+decimation n most = (n + (most - 1)) / most
 
 -- at most so many: beyond that every k-th, k the ceiling of how often they fit
-unfoldable pub thinned : ℕ → List Probe → List Probe
-thinned most ps = if ltb most (length ps) then take most (everyFrom (pitch (length ps) most) 0 ps) else ps
+unfoldable pub decimated : ℕ → List Probe → List Probe
+decimated most ps = if ltb most (length ps) then take most (everyFrom (decimation (length ps) most) 0 ps) else ps
 
 -- ---- the probes of an edge
 
 unfoldable pub probesOf : Settings → Grid → ℕ → List Probe
-probesOf s g e = thinned (min (s .«max_points_per_edge») room) (candidates s g e)
+probesOf s g e = decimated (min (s .«max_points_per_edge») maxEdgePoints) (candidates s g e)
 
 -- those that are in
 abbrev pub held : Probes → List Probe
@@ -69,11 +70,11 @@ noProbe = record { t = f0; «inward_differs» = false }
 -- what the selection promises: the probes of an edge, and nothing behind them, in an array that has room for them
 pub record Selected (s : Settings) (g : Grid) (e : ℕ) (r : Probes) : Type 0 where
   pub probes : held r ≡ probesOf s g e
-  pub rest : drop (r .count) (r .probes) ≡ replicate (room - r .count) noProbe
-  pub fits : r .count ≤ room
-  pub whole : length (r .probes) ≡ room
+  pub rest : drop (r .count) (r .probes) ≡ replicate (maxEdgePoints - r .count) noProbe
+  pub fits : r .count ≤ maxEdgePoints
+  pub whole : length (r .probes) ≡ maxEdgePoints
 
 -- all of the above, for a proof that computes with them: to unfold this is to unfold what its line names
 unfoldable pub opened : Unit {0}
-unfolding nearEnd candidateAt moduleCandidates candidatesFrom candidates everyFrom pitch thinned probesOf
+unfolding nearEnd candidateAt moduleCandidates candidatesFrom candidates everyFrom decimation decimated probesOf
 opened = tt

@@ -6,8 +6,8 @@ ghost use lib.Dec.{leb};
 ghost use lib.ListN.{length};
 ghost use Rattle.grid.specs.Grids.{gridOf, bits, goodGrid};
 ghost use Rattle.grid.specs.Probes.{nearEnd, Selected};
-ghost use Rattle.grid.specs.Places.{darkAt, startOf, strideOf, sideOf, IsSide, placeAt, probeAt, candidate, Counted, Thins, Sought, Picked};
-use consts::ROOM;
+ghost use Rattle.grid.specs.Places.{darkAt, startOf, strideOf, layoutOf, IsLayout, placeAt, probeAt, candidate, Counted, Thins, Sought, Picked};
+use consts::MAX_EDGE_POINTS;
 use consts::Settings;
 
 // A probe of an edge: how far along it, from 0 to 1, and whether the module behind it is light.
@@ -19,12 +19,12 @@ pub struct Probe {
 // The probes of an edge: the first `count` of the array.
 pub struct Probes {
     pub count: usize,
-    pub probes: [Probe; ROOM],
+    pub probes: [Probe; MAX_EDGE_POINTS],
 }
 
 // An edge of a label, 0 the top, 1 right, 2 bottom, else left. Found once for all its modules: where the
 // first one and the one behind that lie, and how far apart the next ones.
-struct Side {
+struct EdgeLayout {
     dim: u32,
     edge: u32,
     border: usize,
@@ -47,7 +47,7 @@ fn dark(modules: &[u8], first: usize, step: usize, m: usize) -> bool
 }
 
 // n less k, and 0 where k is more.
-fn less(n: u32, k: u32) -> u32
+fn saturating_sub(n: u32, k: u32) -> u32
     ensures { λ r. ⌜ r ≡ n - k ⌝ }
 {
     if n < k {
@@ -60,7 +60,7 @@ fn less(n: u32, k: u32) -> u32
 fn start(dim: u32, edge: u32, depth: u32) -> usize
     ensures { λ r. ⌜ r ≡ startOf dim edge depth ⌝ }
 {
-    let far = less(less(dim, 1), depth) as usize;
+    let far = saturating_sub(saturating_sub(dim, 1), depth) as usize;
     match edge {
         0 => depth as usize * dim as usize,
         1 => far,
@@ -81,10 +81,10 @@ fn stride(dim: u32, edge: u32) -> usize
     }
 }
 
-fn side_of(dim: u32, edge: u32) -> Side
-    ensures { λ r. ⌜ r ≡ sideOf dim edge ⌝ }
+fn layout_of(dim: u32, edge: u32) -> EdgeLayout
+    ensures { λ r. ⌜ r ≡ layoutOf dim edge ⌝ }
 {
-    Side {
+    EdgeLayout {
         dim,
         edge,
         border: start(dim, edge, 0),
@@ -94,7 +94,7 @@ fn side_of(dim: u32, edge: u32) -> Side
 }
 
 // The larger of two modules.
-fn larger(a: u8, b: u8) -> u8
+fn max_module(a: u8, b: u8) -> u8
     ensures { λ r. ⌜ leb r 1 ≡ (leb a 1 && leb b 1) ⌝ }
 {
     if a < b { b } else { a }
@@ -109,7 +109,7 @@ fn all_bits(modules: &[u8], n: usize) -> bool
     let mut largest: u8 = 0;
     let mut i: usize = 0;
     while i < n {
-        largest = larger(largest, modules[i]);
+        largest = max_module(largest, modules[i]);
         i += 1;
     }
     largest <= 1
@@ -157,8 +157,8 @@ fn near_end(settings: Settings, dim: u32, at: f64) -> bool
 }
 
 // How many candidates place j holds: one in a dark module in the middle of the edge, else none.
-fn candidates_at(settings: Settings, modules: &[u8], side: Side, j: usize) -> usize
-    requires { ⌜ (j < 8589934592) × IsSide side ⌝ }
+fn candidates_at(settings: Settings, modules: &[u8], side: EdgeLayout, j: usize) -> usize
+    requires { ⌜ (j < 8589934592) × IsLayout side ⌝ }
     ensures { λ r. ⌜ r ≡ length (candidate settings (gridOf (side .dim) (now (modules .entry))) (side .edge) j) ⌝ }
 {
     if !dark(modules, side.border, side.step, j / 2) {
@@ -170,8 +170,8 @@ fn candidates_at(settings: Settings, modules: &[u8], side: Side, j: usize) -> us
     1
 }
 
-fn probe_at(settings: Settings, modules: &[u8], side: Side, j: usize) -> Probe
-    requires { ⌜ (j < 8589934592) × IsSide side ⌝ }
+fn probe_at(settings: Settings, modules: &[u8], side: EdgeLayout, j: usize) -> Probe
+    requires { ⌜ (j < 8589934592) × IsLayout side ⌝ }
     ensures { λ r. ⌜ r ≡ probeAt settings (gridOf (side .dim) (now (modules .entry))) (side .edge) j ⌝ }
 {
     Probe {
@@ -183,8 +183,8 @@ fn probe_at(settings: Settings, modules: &[u8], side: Side, j: usize) -> Probe
 // ---- the two passes
 
 // Module by module, since the two places of one share its darkness.
-fn count_candidates(settings: Settings, modules: &[u8], side: Side) -> usize
-    requires { ⌜ IsSide side ⌝ }
+fn count_candidates(settings: Settings, modules: &[u8], side: EdgeLayout) -> usize
+    requires { ⌜ IsLayout side ⌝ }
     ensures { λ r. ⌜ Counted settings (gridOf (side .dim) (now (modules .entry))) (side .edge) r ⌝ }
 {
     let dim = side.dim as usize;
@@ -200,7 +200,7 @@ fn count_candidates(settings: Settings, modules: &[u8], side: Side) -> usize
 }
 
 // Every how many-th of n candidates is a probe, where there is room for `most`.
-fn pitch(n: usize, most: usize) -> usize
+fn decimation(n: usize, most: usize) -> usize
     requires { ⌜ (n ≤ 8589934592) × (most ≤ 64) ⌝ }
     ensures { λ r. ⌜ Thins n most r ⌝ }
 {
@@ -214,8 +214,14 @@ fn pitch(n: usize, most: usize) -> usize
 }
 
 // From a place on, the place of the candidate behind so many others, or the edge's end where there is none.
-fn seek(settings: Settings, modules: &[u8], side: Side, from: usize, skip: usize) -> usize
-    requires { ⌜ (from ≤ 2 * side .dim) × IsSide side ⌝ }
+fn next_candidate(
+    settings: Settings,
+    modules: &[u8],
+    side: EdgeLayout,
+    from: usize,
+    skip: usize,
+) -> usize
+    requires { ⌜ (from ≤ 2 * side .dim) × IsLayout side ⌝ }
     ensures { λ r. ⌜ Sought settings (gridOf (side .dim) (now (modules .entry))) (side .edge) from skip r ⌝ }
 {
     let places = 2 * side.dim as usize;
@@ -233,21 +239,21 @@ fn seek(settings: Settings, modules: &[u8], side: Side, from: usize, skip: usize
 }
 
 // Every k-th candidate, while there is room.
-fn pick(settings: Settings, modules: &[u8], side: Side, k: usize, most: usize) -> Probes
-    requires { ⌜ ((0 < k) × (most ≤ 64)) × IsSide side ⌝ }
+fn select(settings: Settings, modules: &[u8], side: EdgeLayout, k: usize, most: usize) -> Probes
+    requires { ⌜ ((0 < k) × (most ≤ 64)) × IsLayout side ⌝ }
     ensures { λ r. ⌜ Picked settings (gridOf (side .dim) (now (modules .entry))) (side .edge) k most r ⌝ }
 {
     let none = Probe {
         t: 0.0,
         inward_differs: false,
     };
-    let mut probes = [none; ROOM];
+    let mut probes = [none; MAX_EDGE_POINTS];
     let places = 2 * side.dim as usize;
     let mut count: usize = 0;
     let mut j: usize = 0;
     let mut skip: usize = 0;
     while count < most {
-        let at = seek(settings, modules, side, j, skip);
+        let at = next_candidate(settings, modules, side, j, skip);
         if at >= places {
             return Probes { count, probes };
         }
@@ -265,10 +271,10 @@ fn limit(most: u32) -> usize
     ensures { λ r. ⌜ r ≡ min most 64 ⌝ }
 {
     let most = most as usize;
-    if most < ROOM {
+    if most < MAX_EDGE_POINTS {
         return most;
     }
-    ROOM
+    MAX_EDGE_POINTS
 }
 
 // The probes of an edge: its candidates, thinned evenly to the limit.
@@ -276,7 +282,7 @@ pub fn probes_of(settings: Settings, modules: &[u8], dim: u32, edge: u32) -> Pro
     ensures { λ r. ⌜ Selected settings (gridOf dim (now (modules .entry))) edge r ⌝ }
 {
     let most = limit(settings.max_points_per_edge);
-    let side = side_of(dim, edge);
+    let side = layout_of(dim, edge);
     let n = count_candidates(settings, modules, side);
-    pick(settings, modules, side, pitch(n, most), most)
+    select(settings, modules, side, decimation(n, most), most)
 }

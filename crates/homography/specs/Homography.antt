@@ -2,8 +2,9 @@
 use mathlib.Core.Bool.{_&&_}
 use mathlib.Core.List.{List}
 use lib.Ieee.{Float}
+use Rattle.prelude.specs.Prelude.{if_then_else_}
 use Rattle.number.specs.Numbers as number
-use Rattle.ieee.specs.Floats.{if_then_else_, _⊕_, _⊖_, _⊗_, _⊘_, _≐_, f0, f1}
+use Rattle.ieee.specs.Floats.{_⊕_, _⊖_, _⊗_, _⊘_, _≐_, f0, f1}
 use Rattle.pixel.specs.Pixels.{source, corner}
 use Rattle.pixel.specs.declared.SourcePixel.{SourcePixel}
 use Rattle.homography.specs.declared.PerspectiveTransform.{PerspectiveTransform}

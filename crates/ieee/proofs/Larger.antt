@@ -4,7 +4,7 @@ use mathlib.Core.Bool.{true, false}
 use lib.Ieee.{Float, nan, inf, fin, ne, isNan}
 use lib.Ieee.Compare.{differs-from-itself, nan-differs}
 use Rattle.ieee.specs.Floats.{_≺_}
-use Rattle.ieee.specs.Parts.{larger}
+use Rattle.ieee.specs.Parts.{maximum}
 use Rattle.ieee.proofs.Patterns.{yes}
 
 nan-yes : (x : Float) → ne x x ≡ true → isNan x ≡ true
@@ -18,18 +18,18 @@ nan-no (inf s) h = refl
 nan-no (fin s m e) h = refl
 
 module _ (a b : Float) where
-  pub first-nan : ne a a ≡ true → b ≡ larger a b
-  unfolding larger
+  pub first-nan : ne a a ≡ true → b ≡ maximum a b
+  unfolding maximum
   first-nan h = rw (nan-yes a h)
 
-  pub second-nan : ne a a ≡ false → ne b b ≡ true → a ≡ larger a b
-  unfolding larger
+  pub second-nan : ne a a ≡ false → ne b b ≡ true → a ≡ maximum a b
+  unfolding maximum
   second-nan h k = rw (nan-no a h, nan-yes b k)
 
-  pub second-above : ne a a ≡ false → ne b b ≡ false → (a ≺ b) ≡ true → b ≡ larger a b
-  unfolding larger
+  pub second-above : ne a a ≡ false → ne b b ≡ false → (a ≺ b) ≡ true → b ≡ maximum a b
+  unfolding maximum
   second-above h k l = rw (nan-no a h, nan-no b k, l)
 
-  pub second-not-above : ne a a ≡ false → ne b b ≡ false → (a ≺ b) ≡ false → a ≡ larger a b
-  unfolding larger
+  pub second-not-above : ne a a ≡ false → ne b b ≡ false → (a ≺ b) ≡ false → a ≡ maximum a b
+  unfolding maximum
   second-not-above h k l = rw (nan-no a h, nan-no b k, l)

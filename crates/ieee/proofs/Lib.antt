@@ -4,8 +4,6 @@
 pub mod WholeExact
 -- the definitions at some values
 pub mod Examples
--- patterns and tests
-pub mod Branches
 pub mod Patterns
 pub mod Order
 -- whole numbers

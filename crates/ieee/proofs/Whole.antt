@@ -12,7 +12,7 @@ use lib.Ieee.{Float, nan, inf, fin, Format, binary64, prec, emax, low, up, down,
 use lib.Ieee.Fits.{down-pos, and-l, and-r, eq→eqb, round-is, round-fits}
 use lib.Ieee.Exact.{HasValue, round-exact}
 use lib.Ieee.Back.{round-whole, whole-unique}
-use Rattle.ieee.specs.Parts.{magnitude, cut, raised, floorOf, ceilOf}
+use Rattle.ieee.specs.Parts.{magnitude, floorDiv, ceilDiv, floorOf, ceilOf}
 use Rattle.ieee.proofs.Patterns.{yes, no}
 
 -- 2 ^ 53 and 0.0 as MIR has them
@@ -106,13 +106,13 @@ in-float n h = le→leb n (2 ^ 53) h
 whole-is : (s : Bool) (m : ℕ) (e : ℤ) (n : ℕ) → T (fits binary64 (fin s m e)) → n ≤ 2 ^ 53 → m * up e ≡ n * down e → fin s m e ≡ round binary64 s n 1
 whole-is s m e n f h v = whole-unique binary64 (fin s m e) (round binary64 s n 1) s n f (round-fits binary64 s n 1) (refl, mul-one (m * up e) ∙ v) (round-whole binary64 s n h)
 
-raised-whole : (n d : ℕ) → 0 < d → raised (n * d) d ≡ n
+raised-whole : (n d : ℕ) → 0 < d → ceilDiv (n * d) d ≡ n
 raised-whole n d h = digits-div n (less d h)
   where
     less : (d : ℕ) → 0 < d → d - 1 < d
     less d h = omega arith
 
-raised-part : (a d : ℕ) → 0 < d → (a ≡ a / d * d → ⊥) → raised a d ≡ a / d + 1
+raised-part : (a d : ℕ) → 0 < d → (a ≡ a / d * d → ⊥) → ceilDiv a d ≡ a / d + 1
 raised-part a d h ne =
     ap (λ (z : ℕ). z / d) (over (a / d * d) (a % d) (div-add-mod' a d) (mod-lt a h) ne ∙ ap (λ (z : ℕ). z + (a % d - 1)) (sym (next (a / d))))
     ∙ digits-div (a / d + 1) (less (a % d) (mod-lt a h))
@@ -174,7 +174,7 @@ pub floor-whole : (x : Float) (n : ℕ) → T (fits binary64 x) → Cut x n → 
 unfolding floorOf
 floor-whole nan n f k v = absurd k
 floor-whole (inf s) n f k v = absurd k
-floor-whole (fin true m e) n f k v = whole-is true m e n f (le-of-lt (k .2)) v ∙ ap (λ (z : ℕ). round binary64 true z 1) (sym (ap (λ (z : ℕ). raised z (down e)) v ∙ raised-whole n (down e) (down-pos e)))
+floor-whole (fin true m e) n f k v = whole-is true m e n f (le-of-lt (k .2)) v ∙ ap (λ (z : ℕ). round binary64 true z 1) (sym (ap (λ (z : ℕ). ceilDiv z (down e)) v ∙ raised-whole n (down e) (down-pos e)))
 floor-whole (fin false m e) n f k v = whole-is false m e n f (le-of-lt (k .2)) v ∙ ap (λ (z : ℕ). round binary64 false z 1) (k .1)
 
 pub floor-below : (x : Float) (n : ℕ) → Cut x n → (Exactly x n → ⊥) → lt x (fin false 0 (pos 0)) ≡ true → neg (ofInt binary64 (pos (n + 1))) ≡ floorOf x
@@ -222,7 +222,7 @@ large-is s m k f =
     whole-unique binary64 (fin s (suc m) (pos k)) (round binary64 s a 1) s a f (round-fits binary64 s a 1) (refl, refl)
     (round-exact binary64 s a 1 (suc m) (k + 1074) (zero-lt-suc 0) (h .0) fine (sym e1 ∙ sym (mul-one (suc m * 2 ^ (k + 1074)))))
 
-pub raised-one : (a : ℕ) → raised a 1 ≡ a
+pub raised-one : (a : ℕ) → ceilDiv a 1 ≡ a
 raised-one a = div-one (a + 0) ∙ add-zero a
 
 pub at-least : (a d : ℕ) → 9007199254740992 * d ≤ a * 1 → 0 < d → 9007199254740992 ≤ a
@@ -248,5 +248,5 @@ unfolding floorOf ceilOf neg
 ceil-is nan = refl
 ceil-is (inf true) = refl
 ceil-is (inf false) = refl
-ceil-is (fin true m e) = neg-round binary64 false (cut (m * up e) (down e)) 1
-ceil-is (fin false m e) = neg-round binary64 true (raised (m * up e) (down e)) 1
+ceil-is (fin true m e) = neg-round binary64 false (floorDiv (m * up e) (down e)) 1
+ceil-is (fin false m e) = neg-round binary64 true (ceilDiv (m * up e) (down e)) 1

@@ -13,28 +13,28 @@ use lib.Ieee.{Float, fin, binary64, up, down, round, fits, nan, inf, lt, eq, le}
 use lib.Ieee.Fits.{down-pos, round-fits}
 use lib.Ieee.Exact.{HasValue}
 use lib.Ieee.Back.{round-whole}
-use Rattle.ieee.specs.Parts.{cut, raised, floorOf, ceilOf}
+use Rattle.ieee.specs.Parts.{floorDiv, ceilDiv, floorOf, ceilOf}
 use Rattle.ieee.proofs.Whole.{fits-says, large-is, raised-one}
 use Rattle.ieee.specs.Floats.{_≼_}
 use Rattle.ieee.proofs.AtMost.{AtMost, tested, test, scale, cancel}
 
 -- ---- a / c cut and raised
 
-pub cut-law : (a c : ℕ) → 0 < c → (cut a c * c ≤ a) × (a < (cut a c + 1) * c)
-cut-law a c h = (div-mul-le-self a c, lt-of-lt-of-le (go (cut a c * c) (a % c) (div-add-mod' a c) (mod-lt a h)) (le-of-eq (sym (add-mul (cut a c) 1 c ∙ ap (λ (z : ℕ). cut a c * c + z) (one-mul c)))))
+pub cut-law : (a c : ℕ) → 0 < c → (floorDiv a c * c ≤ a) × (a < (floorDiv a c + 1) * c)
+cut-law a c h = (div-mul-le-self a c, lt-of-lt-of-le (go (floorDiv a c * c) (a % c) (div-add-mod' a c) (mod-lt a h)) (le-of-eq (sym (add-mul (floorDiv a c) 1 c ∙ ap (λ (z : ℕ). floorDiv a c * c + z) (one-mul c)))))
   where
     go : (p r : ℕ) → p + r ≡ a → r < c → a < p + c
     go p r e l = omega arith
 
-pub raised-law : (a c : ℕ) → 0 < c → (a ≤ raised a c * c) × (raised a c * c < a + c)
-raised-law a c h = go (raised a c * c) ((a + (c - 1)) % c) (div-add-mod' (a + (c - 1)) c) (mod-lt (a + (c - 1)) h)
+pub raised-law : (a c : ℕ) → 0 < c → (a ≤ ceilDiv a c * c) × (ceilDiv a c * c < a + c)
+raised-law a c h = go (ceilDiv a c * c) ((a + (c - 1)) % c) (div-add-mod' (a + (c - 1)) c) (mod-lt (a + (c - 1)) h)
   where
     go : (p r : ℕ) → p + r ≡ a + (c - 1) → r < c → (a ≤ p) × (p < a + c)
     go p r e l = omega arith
 
 -- ---- the rounding in the definitions changes nothing
 
-raised-le : (a c b : ℕ) → 0 < c → a < b * c → raised a c ≤ b
+raised-le : (a c b : ℕ) → 0 < c → a < b * c → ceilDiv a c ≤ b
 raised-le a c b h l = native.Mathlib.Nat.le-of-suc-le-suc (div-lt-iff-lt-mul h .1 (lt-of-lt-of-le (go (b * c) l) (le-of-eq (sym (native.Mathlib.Nat.suc-mul b c)))))
   where
     go : (y : ℕ) → a < y → a + (c - 1) < y + c
@@ -42,11 +42,11 @@ raised-le a c b h l = native.Mathlib.Nat.le-of-suc-le-suc (div-lt-iff-lt-mul h .
 
 module _ (s : Bool) where
   Both : ℕ → ℕ → Type 0
-  Both a c = HasValue (round binary64 s (cut a c) 1) s (cut a c) 1 × HasValue (round binary64 s (raised a c) 1) s (raised a c) 1
+  Both a c = HasValue (round binary64 s (floorDiv a c) 1) s (floorDiv a c) 1 × HasValue (round binary64 s (ceilDiv a c) 1) s (ceilDiv a c) 1
 
   small-both : (a c : ℕ) → 0 < c → a < 2 ^ 53 * c → Both a c
   unfolding Both
-  small-both a c h l = (round-whole binary64 s (cut a c) (le-of-lt (div-lt-iff-lt-mul h .1 l)), round-whole binary64 s (raised a c) (raised-le a c (2 ^ 53) h l))
+  small-both a c h l = (round-whole binary64 s (floorDiv a c) (le-of-lt (div-lt-iff-lt-mul h .1 l)), round-whole binary64 s (ceilDiv a c) (raised-le a c (2 ^ 53) h l))
 
   large-both : (m k : ℕ) → T (fits binary64 (fin s (suc m) (pos k))) → Both (suc m * 2 ^ k) 1
   unfolding Both
@@ -64,22 +64,22 @@ module _ (s : Bool) where
       go (suc m) (pos k) f (yes l) = large-both m k f
       go (suc m) (negsuc k) f (yes l) = absurd (not-le-of-lt (fits-says s m (negsuc k) f .0) (le-trans (le-trans (le-of-eq (sym (mul-one (2 ^ 53)))) (native.Mathlib.Nat.mul-le-mul-left (2 ^ 53) (pow-pos (suc k)))) (le-trans l (le-of-eq (mul-one (suc m))))))
 
-  pub cut-exact : (m : ℕ) (e : ℤ) → T (fits binary64 (fin s m e)) → HasValue (round binary64 s (cut (m * up e) (down e)) 1) s (cut (m * up e) (down e)) 1
+  pub cut-exact : (m : ℕ) (e : ℤ) → T (fits binary64 (fin s m e)) → HasValue (round binary64 s (floorDiv (m * up e) (down e)) 1) s (floorDiv (m * up e) (down e)) 1
   unfolding Both
   cut-exact m e f = both m e f .0
 
-  pub raised-exact : (m : ℕ) (e : ℤ) → T (fits binary64 (fin s m e)) → HasValue (round binary64 s (raised (m * up e) (down e)) 1) s (raised (m * up e) (down e)) 1
+  pub raised-exact : (m : ℕ) (e : ℤ) → T (fits binary64 (fin s m e)) → HasValue (round binary64 s (ceilDiv (m * up e) (down e)) 1) s (ceilDiv (m * up e) (down e)) 1
   unfolding Both
   raised-exact m e f = both m e f .1
 
 -- ---- the two functions
 
-pub floor-value : (s : Bool) (m : ℕ) (e : ℤ) → T (fits binary64 (fin s m e)) → HasValue (floorOf (fin s m e)) s (cond s (raised (m * up e) (down e)) (cut (m * up e) (down e))) 1
+pub floor-value : (s : Bool) (m : ℕ) (e : ℤ) → T (fits binary64 (fin s m e)) → HasValue (floorOf (fin s m e)) s (cond s (ceilDiv (m * up e) (down e)) (floorDiv (m * up e) (down e))) 1
 unfolding floorOf
 floor-value true m e f = raised-exact true m e f
 floor-value false m e f = cut-exact false m e f
 
-pub ceil-value : (s : Bool) (m : ℕ) (e : ℤ) → T (fits binary64 (fin s m e)) → HasValue (ceilOf (fin s m e)) s (cond s (cut (m * up e) (down e)) (raised (m * up e) (down e))) 1
+pub ceil-value : (s : Bool) (m : ℕ) (e : ℤ) → T (fits binary64 (fin s m e)) → HasValue (ceilOf (fin s m e)) s (cond s (floorDiv (m * up e) (down e)) (ceilDiv (m * up e) (down e))) 1
 unfolding ceilOf
 ceil-value true m e f = cut-exact true m e f
 ceil-value false m e f = raised-exact false m e f
@@ -87,7 +87,7 @@ ceil-value false m e f = raised-exact false m e f
 -- ---- x's magnitude is a / c, and that of its floor is a whole number
 
 abbrev pub floorTo : Bool → ℕ → ℕ → ℕ
-floorTo s a c = cond s (raised a c) (cut a c)
+floorTo s a c = cond s (ceilDiv a c) (floorDiv a c)
 
 floor-at-most : (s : Bool) (a c : ℕ) → 0 < c → AtMost s (floorTo s a c * c) s a
 floor-at-most false a c p = cut-law a c p .0
@@ -103,18 +103,18 @@ floor-largest false j true a c p h = go (floor-of-none a c p (rest (j * c) a h))
     first : (u v : ℕ) → u + v ≡ 0 → u ≡ 0
     first u v h = omega arith
 
-    floor-of-none : (a c : ℕ) → 0 < c → a ≡ 0 → raised a c ≡ 0
-    floor-of-none a c p h = ap (λ (z : ℕ). raised z c) h ∙ native.Mathlib.Nat.div-eq-of-lt (less c p)
+    floor-of-none : (a c : ℕ) → 0 < c → a ≡ 0 → ceilDiv a c ≡ 0
+    floor-of-none a c p h = ap (λ (z : ℕ). ceilDiv z c) h ∙ native.Mathlib.Nat.div-eq-of-lt (less c p)
       where
         less : (c : ℕ) → 0 < c → 0 + (c - 1) < c
         less c p = omega arith
 
-    go : raised a c ≡ 0 → j ≡ 0 → j + raised a c ≡ 0
+    go : ceilDiv a c ≡ 0 → j ≡ 0 → j + ceilDiv a c ≡ 0
     go u v = rw (u, v)
 floor-largest true j false a c p h = tt
 floor-largest true j true a c p h = raised-most a c j p h
   where
-    raised-most : (a c j : ℕ) → 0 < c → a ≤ j * c → raised a c ≤ j
+    raised-most : (a c j : ℕ) → 0 < c → a ≤ j * c → ceilDiv a c ≤ j
     raised-most a c j p h = native.Mathlib.Nat.le-of-suc-le-suc (native.Mathlib.Nat.div-lt-iff-lt-mul p .1 (lt-of-lt-of-le (go (j * c) h) (le-of-eq (sym (native.Mathlib.Nat.suc-mul j c)))))
       where
         go : (y : ℕ) → a ≤ y → a + (c - 1) < y + c

@@ -38,12 +38,6 @@ float n = ofInt binary64 (pos n)
 abbrev pub wholePart : Float → ℕ
 wholePart x = toUnsigned 32 x
 
--- `if a then b else` on lines one under another reads as the Rust's early returns
-infixr 10 if_then_else_
-abbrev pub if_then_else_ {ℓ} : {A : Type ℓ} → Bool → A → A → A
-if true then a else b = a
-if false then a else b = b
-
 -- ---- the literals of the source
 
 abbrev pub f0 : Float

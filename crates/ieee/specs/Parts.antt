@@ -3,7 +3,8 @@
 use Prim.Native.Nat.{ℕ, _+_, _-_, _*_, _/_}
 use mathlib.Core.Bool.{Bool, true, false, cond}
 use lib.Ieee.{Float, nan, inf, fin, binary64, up, down, round, isNan}
-use Rattle.ieee.specs.Floats.{if_then_else_, _⊖_, _≺_, float, wholePart}
+use Rattle.prelude.specs.Prelude.{if_then_else_}
+use Rattle.ieee.specs.Floats.{_⊖_, _≺_, float, wholePart}
 use Rattle.ieee.specs.declared.Split.{Split}
 
 -- x without its sign
@@ -19,30 +20,30 @@ isFinite (inf s) = false
 isFinite (fin s m e) = true
 
 -- a / c cut to a whole number
-abbrev pub cut : ℕ → ℕ → ℕ
-cut a c = a / c
+abbrev pub floorDiv : ℕ → ℕ → ℕ
+floorDiv a c = a / c
 
 -- the smallest whole number that is at least a / c
-abbrev pub raised : ℕ → ℕ → ℕ
-raised a c = (a + (c - 1)) / c
+abbrev pub ceilDiv : ℕ → ℕ → ℕ
+ceilDiv a c = (a + (c - 1)) / c
 
 -- The largest whole number that is at most x, with x's sign: of a negative x the magnitude goes up.
 unfoldable pub floorOf : Float → Float
 unfolding round
 floorOf nan = nan
 floorOf (inf s) = inf s
-floorOf (fin s m e) = round binary64 s (cond s (raised (m * up e) (down e)) (cut (m * up e) (down e))) 1
+floorOf (fin s m e) = round binary64 s (cond s (ceilDiv (m * up e) (down e)) (floorDiv (m * up e) (down e))) 1
 
 -- The smallest whole number that is at least x, with x's sign.
 unfoldable pub ceilOf : Float → Float
 unfolding round
 ceilOf nan = nan
 ceilOf (inf s) = inf s
-ceilOf (fin s m e) = round binary64 s (cond s (cut (m * up e) (down e)) (raised (m * up e) (down e))) 1
+ceilOf (fin s m e) = round binary64 s (cond s (floorDiv (m * up e) (down e)) (ceilDiv (m * up e) (down e))) 1
 
 -- The larger of a and b, and of two zeros the first. Where one of them is a NaN it is the other: Rust's `f64::max`.
-unfoldable pub larger : Float → Float → Float
-larger a b =
+unfoldable pub maximum : Float → Float → Float
+maximum a b =
     if isNan a then b else
     if isNan b then a else
     if a ≺ b then b else
@@ -54,5 +55,5 @@ splitWhole x = record { whole = wholePart x; left = x ⊖ float (wholePart x) }
 
 -- all of the above, for a proof that computes with them: to unfold this is to unfold what its line names
 unfoldable pub opened : Unit {0}
-unfolding magnitude isFinite floorOf ceilOf larger
+unfolding magnitude isFinite floorOf ceilOf maximum
 opened = tt

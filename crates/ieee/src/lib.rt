@@ -4,7 +4,7 @@ ghost use mathlib.Core.Path.{_≡_};
 ghost use mathlib.Core.Bool.{true};
 ghost use lib.Ieee.{binary64, toBits, ofBits, toUnsigned};
 ghost use Rattle.ieee.specs.Floats.{f0, _≼_};
-ghost use Rattle.ieee.specs.Parts.{magnitude, isFinite, floorOf, ceilOf, larger, splitWhole};
+ghost use Rattle.ieee.specs.Parts.{magnitude, isFinite, floorOf, ceilOf, maximum, splitWhole};
 
 // A value's whole part, and what is left of it: its fraction, where the value is in the range of the whole part.
 pub struct Split {
@@ -54,7 +54,7 @@ pub fn is_finite(x: f64) -> bool
 
 // The larger of a and b; where one of them is a NaN, the other. Rust's `f64::max`.
 pub fn max(a: f64, b: f64) -> f64
-    ensures { λ r. ⌜ r ≡ larger a b ⌝ }
+    ensures { λ r. ⌜ r ≡ maximum a b ⌝ }
 {
     if a != a {
         return b;

@@ -1,7 +1,7 @@
 // `ieee` for programs in C: bench/ieee times it.
 ghost use mathlib.Core.Path.{_≡_};
 ghost use lib.Ieee.{binary64, toBits, ofBits, toUnsigned};
-ghost use Rattle.ieee.specs.Parts.{magnitude, isFinite, larger, floorOf, ceilOf};
+ghost use Rattle.ieee.specs.Parts.{magnitude, isFinite, maximum, floorOf, ceilOf};
 ghost use Rattle.ieee_root.specs.Root.{root};
 
 #[no_mangle]
@@ -34,7 +34,7 @@ pub extern "C" fn ieee_is_finite(x: f64) -> bool
 
 #[no_mangle]
 pub extern "C" fn ieee_max(a: f64, b: f64) -> f64
-    ensures { λ r. ⌜ r ≡ larger a b ⌝ }
+    ensures { λ r. ⌜ r ≡ maximum a b ⌝ }
 {
     ieee::max(a, b)
 }

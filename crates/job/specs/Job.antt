@@ -4,7 +4,7 @@ use Prim.Native.Nat.{ℕ, _+_}
 use mathlib.Core.List.{List, [], _∷_}
 use lib.Dec.{eqb}
 use lib.ListN.{drop}
-use Rattle.ieee.specs.Floats.{if_then_else_}
+use Rattle.prelude.specs.Prelude.{if_then_else_}
 use Rattle.consts.specs.Consts.{defaults}
 use Rattle.pixel.specs.declared.WorkingPixel.{WorkingPixel}
 use Rattle.camera.specs.declared.CameraIntrinsics.{CameraIntrinsics}
@@ -15,7 +15,7 @@ use Rattle.sampling.specs.declared.View.the-variants.{Plain, Calibrated}
 use Rattle.refine.specs.declared.Request.{Request}
 use Rattle.refine.specs.Refine.{Photograph}
 use Rattle.fields.specs.Fields.{byteAt, numberAt, floatAt}
-use Rattle.job_card.specs.JobCard.{isWhole, fieldPart}
+use Rattle.job_card.specs.JobCard.{hasExactly, fieldPart}
 
 abbrev pub workingAt : List ℕ → ℕ → WorkingPixel
 workingAt s i = record { 0 = floatAt s i; 1 = floatAt s (i + 8) }
@@ -29,7 +29,7 @@ lensOf s =
 
 unfoldable pub viewOf : List ℕ → View
 viewOf card =
-    if isWhole card 8
+    if hasExactly card 8
     then Calibrated (record {
       intrinsics = intrinsicsAt (fieldPart card 7) 0;
       rectified = intrinsicsAt (fieldPart card 7) 32;

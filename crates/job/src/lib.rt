@@ -19,7 +19,7 @@ use camera::LensDistortion;
 use fields::byte_at;
 use fields::float_at;
 use fields::number_at;
-use job_card::is_whole;
+use job_card::has_exactly;
 use job_card::part;
 use pixel::WorkingPixel;
 use refine::Request;
@@ -88,7 +88,7 @@ fn lens_of(s: &[u8]) -> LensDistortion
 fn view_of(card: &[u8]) -> View
     ensures { λ r. ⌜ r ≡ viewOf (now (card .entry)) ⌝ }
 {
-    if !is_whole(card, 8) {
+    if !has_exactly(card, 8) {
         return View::Plain;
     }
     let pair = part(card, 7);

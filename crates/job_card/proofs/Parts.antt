@@ -8,19 +8,19 @@ use native.Mathlib.Omega.{arith}
 use borrow.Author.Tests.{le-leb, leb-true, leb-false, eqb-true}
 use lib.Dec.{leb, eqb}
 use lib.ListN.{length}
-use Rattle.ieee.specs.Floats.{if_then_else_}
-use Rattle.ieee.proofs.Branches.{by-test}
+use Rattle.prelude.proofs.Tests.{both}
+use Rattle.prelude.specs.Prelude.{if_then_else_}
+use Rattle.prelude.proofs.Branches.{by-test}
 use Rattle.number.specs.Numbers as number
-use Rattle.camera.proofs.Tests.{both}
-use Rattle.job_card.specs.JobCard.{startAt, contents, hasFields, isWhole, goodCard, fieldNumber, fieldPart}
+use Rattle.job_card.specs.JobCard.{startAt, contents, hasFields, hasExactly, wellFormed, fieldNumber, fieldPart}
 use Rattle.job_card.proofs.Walks.{fewer, broken, no-header}
 
-pub not-found : (card : List ℕ) (t : ℕ) → (leb 1 t && leb t 8 && goodCard card) ≡ false → ([] ≡ fieldPart card t) × (number.card ≡ fieldNumber card t)
+pub not-found : (card : List ℕ) (t : ℕ) → (leb 1 t && leb t 8 && wellFormed card) ≡ false → ([] ≡ fieldPart card t) × (number.card ≡ fieldNumber card t)
 unfolding fieldPart fieldNumber
 not-found card t none = (rw none, rw none)
 
-whole : (card : List ℕ) (n : ℕ) → isWhole card n ≡ true → (hasFields card n ≡ true) × (startAt card n ≡ length card)
-unfolding isWhole
+whole : (card : List ℕ) (n : ℕ) → hasExactly card n ≡ true → (hasFields card n ≡ true) × (startAt card n ≡ length card)
+unfolding hasExactly
 whole card n e = let w = both (hasFields card n) (eqb (startAt card n) (length card)) e in (w .0, eqb-true _ _ (w .1))
 
 -- a card that ends behind field 6 has no field 7
@@ -28,11 +28,11 @@ no-seventh : (card : List ℕ) (n : ℕ) → startAt card 6 ≡ length card → 
 no-seventh card n end more = broken card 7 n (omega arith) more (no-header card 7 (startAt card 6) refl (omega arith))
 
 -- a field of a well formed card is there where its tag is at most 6, or where the card has eight
-listed : (card : List ℕ) (t : ℕ) → t ≤ 8 → goodCard card ≡ true → (leb t 6 || isWhole card 8) ≡ hasFields card t
-unfolding goodCard
+listed : (card : List ℕ) (t : ℕ) → t ≤ 8 → wellFormed card ≡ true → (leb t 6 || hasExactly card 8) ≡ hasFields card t
+unfolding wellFormed
 listed card t most good =
-    let six-or-eight = both (leb (length card) 65535) (isWhole card 6 || isWhole card 8) good .1 in
-    by-test (isWhole card 8)
+    let six-or-eight = both (leb (length card) 65535) (hasExactly card 6 || hasExactly card 8) good .1 in
+    by-test (hasExactly card 8)
     (λ eight. rw (eight, or-true, fewer card t 8 most (whole card 8 eight .0)))
     (λ shorter.
     let six = whole card 6 (rw (shorter, or-false) at six-or-eight) in
@@ -40,7 +40,7 @@ listed card t most good =
     (λ low. rw (low, fewer card t 6 (leb-true t 6 low) (six .0)))
     (λ high. rw (high, shorter, no-seventh card t (six .1) (leb-false t 6 high))))
 
-pub found : (card : List ℕ) (t : ℕ) (part : List ℕ) → 1 ≤ t → t ≤ 8 → goodCard card ≡ true
+pub found : (card : List ℕ) (t : ℕ) (part : List ℕ) → 1 ≤ t → t ≤ 8 → wellFormed card ≡ true
     → part ≡ (if hasFields card t then contents card t else [])
     → (part ≡ fieldPart card t) × (number.answer ≡ fieldNumber card t)
 unfolding fieldPart fieldNumber

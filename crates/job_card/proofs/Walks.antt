@@ -8,12 +8,12 @@ use native.Mathlib.Omega.{arith}
 use borrow.Author.Tests.{le-leb, lt-leb, eq-eqb, ne-eqb, leb-true}
 use lib.Dec.{leb, eqb}
 use lib.ListN.{length, take, drop}
-use Rattle.ieee.specs.Floats.{if_then_else_}
-use Rattle.camera.proofs.Tests.{both}
+use Rattle.prelude.proofs.Tests.{both}
+use Rattle.prelude.specs.Prelude.{if_then_else_}
 use Rattle.fields.specs.Fields.{byteAt}
 use Rattle.job_card.specs.JobCard.{sizeAt, startAt, startOf, contents, suits, hasField, hasFields}
-use Rattle.job_card.specs.declared.Ends.{Ends}
-use Rattle.job_card.specs.declared.Ends.the-variants.{At, Nowhere}
+use Rattle.job_card.specs.declared.FieldEnd.{FieldEnd}
+use Rattle.job_card.specs.declared.FieldEnd.the-variants.{At, Nowhere}
 
 -- ---- the tests on field t, whose header stands at i
 
@@ -100,7 +100,7 @@ row-within card (suc k) all = within-card card (suc k) (omega arith) (has-field 
 -- ---- the walk
 
 -- where a field or a row of fields ends, if it is there
-abbrev pub endIf : Bool → ℕ → Ends
+abbrev pub endIf : Bool → ℕ → FieldEnd
 endIf there end = if there then At end else Nowhere
 
 pub ended : (there : Bool) (x y : ℕ) → At x ≡ endIf there y → (there ≡ true) × (x ≡ y)

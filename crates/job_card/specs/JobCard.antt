@@ -6,8 +6,8 @@ use mathlib.Core.Bool.{Bool, true, not, _&&_, _||_}
 use mathlib.Core.List.{List, []}
 use lib.Dec.{leb, eqb}
 use lib.ListN.{length, take, drop}
+use Rattle.prelude.specs.Prelude.{if_then_else_}
 use Rattle.number.specs.Numbers as number
-use Rattle.ieee.specs.Floats.{if_then_else_}
 use Rattle.fields.specs.Fields.{byteAt, numberAt}
 
 -- ---- where the fields lie
@@ -58,21 +58,21 @@ unfoldable pub hasFields : List ℕ → ℕ → Bool
 hasFields card zero = true
 hasFields card (suc n) = hasFields card n && hasField card (suc n)
 
-unfoldable pub isWhole : List ℕ → ℕ → Bool
-isWhole card n = hasFields card n && eqb (startAt card n) (length card)
+unfoldable pub hasExactly : List ℕ → ℕ → Bool
+hasExactly card n = hasFields card n && eqb (startAt card n) (length card)
 
 -- 1 to 6, or with a camera 1 to 8
-unfoldable pub goodCard : List ℕ → Bool
-goodCard card = leb (length card) 65535 && (isWhole card 6 || isWhole card 8)
+unfoldable pub wellFormed : List ℕ → Bool
+wellFormed card = leb (length card) 65535 && (hasExactly card 6 || hasExactly card 8)
 
 -- ---- the field finder: the number that it writes, and the part that it hands back
 
 unfoldable pub fieldNumber : List ℕ → ℕ → ℕ
-fieldNumber card t = if leb 1 t && leb t 8 && goodCard card then number.answer else number.card
+fieldNumber card t = if leb 1 t && leb t 8 && wellFormed card then number.answer else number.card
 
 -- empty where the card is malformed, where the tag is not listed, and where 7 or 8 is absent
 unfoldable pub fieldPart : List ℕ → ℕ → List ℕ
 fieldPart card t =
     if not (eqb (fieldNumber card t) number.answer) then [] else
-    if leb t 6 || isWhole card 8 then contents card t else
+    if leb t 6 || hasExactly card 8 then contents card t else
     []

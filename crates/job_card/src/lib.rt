@@ -3,15 +3,15 @@ ghost use mathlib.Core.Path.{_≡_};
 ghost use mathlib.Core.List.{[]};
 ghost use Prim.Native.Nat.{_≤_};
 ghost use lib.ListN.{length};
-ghost use Rattle.ieee.specs.Floats.{if_then_else_};
-ghost use Rattle.job_card.specs.JobCard.{startAt, startOf, contents, isLens, suits, hasField, hasFields, isWhole, goodCard, fieldNumber, fieldPart};
+ghost use Rattle.prelude.specs.Prelude.{if_then_else_};
+ghost use Rattle.job_card.specs.JobCard.{startAt, startOf, contents, isLens, suits, hasField, hasFields, hasExactly, wellFormed, fieldNumber, fieldPart};
 use fields::number_at;
 
 // The most bytes that a job card has.
 const LONGEST: usize = 65535;
 
 // Where a field, or a row of fields, ends; nowhere if one of them is not there.
-enum Ends {
+enum FieldEnd {
     At(usize),
     Nowhere,
 }
@@ -61,66 +61,66 @@ fn suits_tag(tag: u8, s: &[u8]) -> bool
 }
 
 // Where the field of a tag ends, whose header stands at i if it is there.
-fn field_end(card: &[u8], tag: u8, i: usize) -> Ends
+fn field_end(card: &[u8], tag: u8, i: usize) -> FieldEnd
     requires { ⌜ (1 ≤ tag) × (i ≡ startOf (now card) tag) × (i ≤ length (now card)) ⌝ }
-    ensures { λ r. ⌜ r ≡ (if hasField (now (card .entry)) tag then Ends.At (startAt (now (card .entry)) tag) else Ends.Nowhere) ⌝ }
+    ensures { λ r. ⌜ r ≡ (if hasField (now (card .entry)) tag then FieldEnd.At (startAt (now (card .entry)) tag) else FieldEnd.Nowhere) ⌝ }
 {
     if card.len() - i < 3 {
-        return Ends::Nowhere;
+        return FieldEnd::Nowhere;
     }
     if card[i] != tag {
-        return Ends::Nowhere;
+        return FieldEnd::Nowhere;
     }
     let start = i + 3;
     let end = start + number_at(card, i + 1, 2) as usize;
     if card.len() < end {
-        return Ends::Nowhere;
+        return FieldEnd::Nowhere;
     }
     if !suits_tag(tag, &card[start..end]) {
-        return Ends::Nowhere;
+        return FieldEnd::Nowhere;
     }
-    Ends::At(end)
+    FieldEnd::At(end)
 }
 
 // Where the fields 1 to n of a card end.
-fn fields_end(card: &[u8], n: u8) -> Ends
-    ensures { λ r. ⌜ r ≡ (if hasFields (now (card .entry)) n then Ends.At (startAt (now (card .entry)) n) else Ends.Nowhere) ⌝ }
+fn fields_end(card: &[u8], n: u8) -> FieldEnd
+    ensures { λ r. ⌜ r ≡ (if hasFields (now (card .entry)) n then FieldEnd.At (startAt (now (card .entry)) n) else FieldEnd.Nowhere) ⌝ }
 {
     let mut i: usize = 0;
     let mut k: u8 = 0;
     while k < n {
         match field_end(card, k + 1, i) {
-            Ends::At(end) => {
+            FieldEnd::At(end) => {
                 i = end;
             }
-            Ends::Nowhere => return Ends::Nowhere,
+            FieldEnd::Nowhere => return FieldEnd::Nowhere,
         }
         k += 1;
     }
-    Ends::At(i)
+    FieldEnd::At(i)
 }
 
 // Whether a card has the fields 1 to n, and nothing behind them.
-pub fn is_whole(card: &[u8], n: u8) -> bool
-    ensures { λ r. ⌜ r ≡ isWhole (now (card .entry)) n ⌝ }
+pub fn has_exactly(card: &[u8], n: u8) -> bool
+    ensures { λ r. ⌜ r ≡ hasExactly (now (card .entry)) n ⌝ }
 {
     match fields_end(card, n) {
-        Ends::At(end) => end == card.len(),
-        Ends::Nowhere => false,
+        FieldEnd::At(end) => end == card.len(),
+        FieldEnd::Nowhere => false,
     }
 }
 
 // Whether a job card is well formed: at most 65,535 bytes, and the fields 1 to 6, or with a camera 1 to 8.
-pub fn is_good(card: &[u8]) -> bool
-    ensures { λ r. ⌜ r ≡ goodCard (now (card .entry)) ⌝ }
+pub fn well_formed(card: &[u8]) -> bool
+    ensures { λ r. ⌜ r ≡ wellFormed (now (card .entry)) ⌝ }
 {
     if card.len() > LONGEST {
         return false;
     }
-    if is_whole(card, 6) {
+    if has_exactly(card, 6) {
         return true;
     }
-    is_whole(card, 8)
+    has_exactly(card, 8)
 }
 
 // The contents of a field, empty where it or one before it is not there.
@@ -128,10 +128,10 @@ fn part_of<'a>(card: &'a [u8], tag: u8) -> &'a [u8]
     requires { ⌜ (1 ≤ tag) × (tag ≤ 8) ⌝ }
     ensures { λ r. ⌜ now r ≡ (if hasFields (now (card .entry)) tag then contents (now (card .entry)) tag else []) ⌝ }
 {
-    let Ends::At(i) = fields_end(card, tag - 1) else {
+    let FieldEnd::At(i) = fields_end(card, tag - 1) else {
         return &card[0..0];
     };
-    let Ends::At(end) = field_end(card, tag, i) else {
+    let FieldEnd::At(end) = field_end(card, tag, i) else {
         return &card[0..0];
     };
     &card[i + 3..end]
@@ -150,7 +150,7 @@ pub fn find_field<'a>(card: &'a [u8], tag: u8, number: &mut u32) -> &'a [u8]
     if tag > 8 {
         return &card[0..0];
     }
-    if !is_good(card) {
+    if !well_formed(card) {
         return &card[0..0];
     }
     *number = number::ANSWER;

@@ -60,7 +60,7 @@ fn main() {
     }
     let n = input.count;
     let mut text = [0u8; 1024];
-    let end = lines::answer_lines(cards::run_job(&buffer[..n]), &mut text);
+    let end = report::answer_lines(cards::run_job(&buffer[..n]), &mut text);
     if !io::write_all(libc::STDOUT_FILENO, &text[..end]) {
         io::write_all(
             libc::STDERR_FILENO,

@@ -4,7 +4,7 @@ use lib.Ieee.{binary64}
 use lib.Ieee.Fits.{add-fits}
 use Rattle.ieee.specs.Floats.{_≺_, _⊖_, _⊗_, _⊘_, f1e-9}
 use Rattle.ieee.specs.Parts.{isFinite, magnitude}
-use Rattle.ieee.proofs.Branches.{either}
+use Rattle.prelude.proofs.Branches.{either}
 use Rattle.pixel.specs.declared.SourcePixel.{SourcePixel}
 use Rattle.pixel.proofs.Values.{Fits}
 use Rattle.line.specs.declared.Line2.{Line2}

@@ -5,10 +5,11 @@ use mathlib.Core.List.{List}
 use lib.Dec.{ltb, eqb}
 use lib.ListN.{length}
 use lib.Ieee.{Float, neg, binary64}
+use Rattle.prelude.specs.Prelude.{if_then_else_}
 use Rattle.number.specs.Numbers as number
 use Rattle.ieee.specs.Parts.{isFinite, magnitude}
 use Rattle.ieee_root.specs.Root.{root}
-use Rattle.ieee.specs.Floats.{if_then_else_, _⊕_, _⊖_, _⊗_, _⊘_, _≐_, _≺_, _≼_, f0, f1, f2, ε, f1e-9}
+use Rattle.ieee.specs.Floats.{_⊕_, _⊖_, _⊗_, _⊘_, _≐_, _≺_, _≼_, f0, f1, f2, ε, f1e-9}
 use Rattle.pixel.specs.Pixels.{source, direction}
 use Rattle.pixel.specs.declared.SourcePixel.{SourcePixel}
 use Rattle.pixel.specs.declared.Direction.{Direction}
@@ -28,20 +29,20 @@ line c d = record { centroid = c; dir = d }
 -- ---- the direction of the larger spread
 
 -- a is sxx - syy, b is 2 * sxy, h the root of a * a + b * b
-unfoldable pub leaning : Float → Float → Float → Direction
-leaning a b h =
+unfoldable pub halfAngleDirection : Float → Float → Float → Direction
+halfAngleDirection a b h =
     if f0 ≼ a
     then (let c = root binary64 ((h ⊕ a) ⊘ (f2 ⊗ h)) in direction c (b ⊘ (f2 ⊗ h ⊗ c)))
     else (let m = root binary64 ((h ⊖ a) ⊘ (f2 ⊗ h)) in
     let s = if f0 ≼ b then m else neg m in
     direction (b ⊘ (f2 ⊗ h ⊗ s)) s)
 
-unfoldable pub spread : Moments → Direction
-spread m =
+unfoldable pub principalDirection : Moments → Direction
+principalDirection m =
     let a = m .sxx ⊖ m .syy in
     let b = f2 ⊗ m .sxy in
     let h = root binary64 (a ⊗ a ⊕ b ⊗ b) in
-    if h ≐ f0 then direction f1 f0 else leaning a b h
+    if h ≐ f0 then direction f1 f0 else halfAngleDirection a b h
 
 -- ---- `fit_line_tls_weighted`: 13, 14, 15, the sum of 16, a negative weight of 16, 10, 11
 
@@ -71,8 +72,8 @@ unfoldable pub fitMoments : SourcePixel → Moments → Fitted
 fitMoments c m =
     if m .sxx ⊕ m .syy ≼ ε then Refused number.line else
     if not (finitePlace c) then Refused number.overflow else
-    if not (finiteDirection (spread m)) then Refused number.overflow else
-    Along (line c (spread m))
+    if not (finiteDirection (principalDirection m)) then Refused number.overflow else
+    Along (line c (principalDirection m))
 
 -- n points and as many weights, all finite
 unfoldable pub fitFinite : ℕ → (xs ys ws : List Float) → Fitted
@@ -128,5 +129,5 @@ crossAnswer Parallel = record { number = number.parallel; place = source f0 f0 }
 
 -- all of the above, for a proof that computes with them: to unfold this is to unfold what its line names
 unfoldable pub opened : Unit {0}
-unfolding sumTo allTo leaning spread finitePlace finiteDirection finiteTo mean scatter fitMoments fitFinite fitPaired fitLine crossing lineAnswer crossAnswer
+unfolding sumTo allTo halfAngleDirection principalDirection finitePlace finiteDirection finiteTo mean scatter fitMoments fitFinite fitPaired fitLine crossing lineAnswer crossAnswer
 opened = tt

@@ -13,10 +13,10 @@ ghost use Rattle.line.specs.Line.{
   fitLine,
   fitMoments,
   fitPaired,
-  leaning,
+  halfAngleDirection,
   lineAnswer,
   scatter,
-  spread,
+  principalDirection,
 };
 use pixel::Direction;
 use pixel::SourcePixel;
@@ -138,8 +138,8 @@ fn scatter_of(xs: &[f64], ys: &[f64], weights: &[f64], c: SourcePixel) -> Moment
 
 // The direction at half the angle of (a, b), whose length is h. The larger part is a root and the smaller
 // one a quotient by it, since the root of a small difference would lose digits.
-fn lean(a: f64, b: f64, h: f64) -> Direction
-    ensures { λ r. ⌜ r ≡ leaning a b h ⌝ }
+fn half_angle_direction(a: f64, b: f64, h: f64) -> Direction
+    ensures { λ r. ⌜ r ≡ halfAngleDirection a b h ⌝ }
 {
     if a >= 0.0 {
         let c = ieee_root::sqrt((h + a) / (2.0 * h));
@@ -163,7 +163,7 @@ fn lean(a: f64, b: f64, h: f64) -> Direction
 
 // The direction of the larger spread; along x where no direction has more than another.
 fn direction_of(m: Moments) -> Direction
-    ensures { λ r. ⌜ r ≡ spread m ⌝ }
+    ensures { λ r. ⌜ r ≡ principalDirection m ⌝ }
 {
     let a = m.sxx - m.syy;
     let b = 2.0 * m.sxy;
@@ -171,7 +171,7 @@ fn direction_of(m: Moments) -> Direction
     if h == 0.0 {
         return Direction { x: 1.0, y: 0.0 };
     }
-    lean(a, b, h)
+    half_angle_direction(a, b, h)
 }
 
 fn both_finite(x: f64, y: f64) -> bool

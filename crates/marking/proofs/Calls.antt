@@ -9,10 +9,10 @@ use Rattle.number.specs.Numbers as number
 use Rattle.sampling.specs.Photographs.{Photo, goodSize}
 use Rattle.sampling.specs.declared.Scene.{Scene}
 use Rattle.sampling.proofs.Inside.{size-checked}
-use Rattle.look.specs.declared.Meter.{Meter}
-use Rattle.look.specs.Look.{Look}
-use Rattle.look.specs.Run.{Ran, ran, run, State, state, sampler, Runs}
-use Rattle.look.proofs.Meaning.{run-cleared}
+use Rattle.sample_tree.specs.declared.Meter.{Meter}
+use Rattle.sample_tree.specs.SampleTree.{SampleTree}
+use Rattle.sample_tree.specs.Run.{Ran, ran, run, State, state, sampler, Runs}
+use Rattle.sample_tree.proofs.Meaning.{run-cleared}
 use Rattle.corners.specs.declared.Answer.{Answer}
 use Rattle.corners.specs.Corners.{refused}
 use Rattle.refine.specs.declared.Request.{Request}
@@ -20,7 +20,7 @@ use Rattle.refine.specs.Refine.{Photograph, sceneOf, shown, refinement, result,
 use Rattle.marking.specs.Marking.{markingEntry, markingNumber, refineMarking, sheetAfter, copyAfter, Marks, RunsMarked}
 
 -- behind the entry checks: sheet and copy are cleared, and the step runs
-pub ran-marked : {A : Type 0} (e : Scene) (p : Photo) (t : Look A) (s c : List ℕ) {r : A} {s₁ c₁ s′ c′ : List ℕ} {m m′ : Meter} {n : ℕ} → goodSize (e .width) (e .height) ≡ true
+pub ran-marked : {A : Type 0} (e : Scene) (p : Photo) (t : SampleTree A) (s c : List ℕ) {r : A} {s₁ c₁ s′ c′ : List ℕ} {m m′ : Meter} {n : ℕ} → goodSize (e .width) (e .height) ≡ true
     → n ≡ e .width * e .height → s₁ ≡ replicate n 0 ++ drop n s → c₁ ≡ replicate n 0 ++ drop n c
     → Runs (sampler e p) t r (state s₁ c₁ m) (state s′ c′ m′) → RunsMarked e p t r s s′ c c′
 ran-marked {A} e p t s c {r} {s′ = s′} {c′ = c′} {m = m} {m′ = m′} good area sheet copy went =

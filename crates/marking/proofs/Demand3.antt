@@ -10,17 +10,18 @@ use mathlib.Core.List.{List, _++_}
 use lib.Dec.{T}
 use lib.ListN.{length, getD, take, drop}
 use lib.Seq.{getD-take, take-at, drop-at}
+use Rattle.prelude.specs.Prelude.{if_then_else_, bit}
 use Rattle.number.specs.Numbers as number
-use Rattle.ieee.specs.Floats.{if_then_else_}
 use Rattle.sampling.specs.Photographs.{Photo, pixel}
 use Rattle.pixel.proofs.Places.{place-lt}
 use Rattle.sampling.proofs.Pixels.{Inside}
 use Rattle.sampling.proofs.Inside.{Sized, size-checked}
-use Rattle.look.specs.Look.{Look, value}
-use Rattle.look.specs.Sheets.{isRead, bit, sheet, copy}
-use Rattle.look.proofs.Inside.{reads-inside}
-use Rattle.look.proofs.Sheets.{is-true, each-read, sheet-at, copy-at, length-sheet, length-copy}
-use Rattle.look.proofs.Demand3 as look
+use Rattle.sample_tree.specs.SampleTree.{SampleTree, value}
+use Rattle.sample_tree.specs.Sheets.{isRead, sheet, copy}
+use Rattle.sample_tree.proofs.Inside.{reads-inside}
+use lib.Ieee.Bits.{is-true}
+use Rattle.sample_tree.proofs.Sheets.{each-read, sheet-at, copy-at, length-sheet, length-copy}
+use Rattle.sample_tree.proofs.Demand3 as oneSample
 use Rattle.corners.specs.declared.Answer.{Answer}
 use Rattle.rounds.specs.Rounds.{rounds}
 use Rattle.refine.specs.declared.Request.{Request}
@@ -123,8 +124,8 @@ module _ (r : Request) (grid : List ℕ) where
   inside a x y = each-read (Inside (r .width) (r .height)) x y (readsIn r grid a) (reads-inside (sceneOf r) (size a) (seen a) (refinement r (a .modules)))
 
   -- and look's demand 3 holds of its run
-  demand : (a : Call r grid) → look.Demand3 (sceneOf r) (refinement r (a .modules))
-  demand a = look.demand-3 (sceneOf r) (size a) (refinement r (a .modules))
+  demand : (a : Call r grid) → oneSample.Demand3 (sceneOf r) (refinement r (a .modules))
+  demand a = oneSample.demand-3 (sceneOf r) (size a) (refinement r (a .modules))
 
   -- ---- two calls
 
@@ -137,23 +138,23 @@ module _ (r : Request) (grid : List ℕ) where
     -- so the second one's answer, sheet and copy are those of the first one's steps over its photograph
     returned-by : b .answer ≡ value (sceneOf r) (seen b) (refinement r (a .modules))
     unfolding result
-    returned-by = returned b ∙ ap (λ (u : Look Answer). value (sceneOf r) (seen b) u) same-steps
+    returned-by = returned b ∙ ap (λ (u : SampleTree Answer). value (sceneOf r) (seen b) u) same-steps
 
-    sheet-by : take (area r) (b .sheet′) ≡ look.SheetOf (sceneOf r) (refinement r (a .modules)) (seen b)
+    sheet-by : take (area r) (b .sheet′) ≡ oneSample.SheetOf (sceneOf r) (refinement r (a .modules)) (seen b)
     unfolding readsOf
-    sheet-by = sheet-front b ∙ ap (λ (u : Look Answer). look.SheetOf (sceneOf r) u (seen b)) same-steps
+    sheet-by = sheet-front b ∙ ap (λ (u : SampleTree Answer). oneSample.SheetOf (sceneOf r) u (seen b)) same-steps
 
-    copy-by : take (area r) (b .copy′) ≡ look.CopyOf (sceneOf r) (refinement r (a .modules)) (seen b)
+    copy-by : take (area r) (b .copy′) ≡ oneSample.CopyOf (sceneOf r) (refinement r (a .modules)) (seen b)
     unfolding readsOf
-    copy-by = copy-front b ∙ ap (λ (u : Look Answer). look.CopyOf (sceneOf r) u (seen b)) same-steps
+    copy-by = copy-front b ∙ ap (λ (u : SampleTree Answer). oneSample.CopyOf (sceneOf r) u (seen b)) same-steps
 
     -- where they leave the same, their runs do
-    same-runs : SameMarks r grid a b → look.SameMarks (sceneOf r) (refinement r (a .modules)) (seen a) (seen b)
+    same-runs : SameMarks r grid a b → oneSample.SameMarks (sceneOf r) (refinement r (a .modules)) (seen a) (seen b)
     unfolding readsOf
     same-runs same = record { sheets = sym sheet-by ∙ same .sheets ∙ sheet-front a; copies = sym copy-by ∙ same .copies ∙ copy-front a }
 
     -- and the other way
-    same-calls : look.SameMarks (sceneOf r) (refinement r (a .modules)) (seen a) (seen b) → SameMarks r grid a b
+    same-calls : oneSample.SameMarks (sceneOf r) (refinement r (a .modules)) (seen a) (seen b) → SameMarks r grid a b
     unfolding readsOf
     same-calls same = record { sheets = sheet-by ∙ same .sheets ∙ sym (sheet-front a); copies = copy-by ∙ same .copies ∙ sym (copy-front a) }
 

@@ -1,48 +1,22 @@
 -- The entry checks of a marking call: the seventh comes behind those of the refinement call, and which calls pass all. Assumes nothing.
 use mathlib.Core.Path.{_≡_, refl, sym, ap, _∙_, subst}
-use Prim.Native.Nat.{ℕ, zero, suc, _+_, _-_, _*_, _≤_, _<_}
+use Prim.Native.Nat.{ℕ, suc, _+_, _-_, _*_, _≤_, _<_}
 use native.Mathlib.Nat.{mul-comm, suc-mul, le-refl}
 use native.Mathlib.Omega.{arith}
-use mathlib.Core.Bool.{Bool, true, false, not, _&&_}
-use mathlib.Core.List.{List, [], _∷_, _++_}
-use lib.Dec.{leb, eqb, eqb·suc-zero}
-use borrow.Author.Tests.{leb-true, le-leb, lt-leb, ne-eqb, not-true}
+use mathlib.Core.Bool.{true, _&&_}
+use mathlib.Core.List.{List, [], _∷_}
+use lib.Dec.{leb, eqb}
+use borrow.Author.Tests.{leb-true, le-leb, lt-leb, ne-eqb}
+use Rattle.prelude.proofs.Checks.{behind, zero-exactly, all-zero}
+use Rattle.prelude.specs.Checks.{check}
+use Rattle.prelude.proofs.Tests.{both}
+use Rattle.prelude.specs.Prelude.{if_then_else_}
 use Rattle.number.specs.Numbers as number
-use Rattle.ieee.specs.Floats.{if_then_else_}
-use Rattle.camera.proofs.Tests.{both}
 use Rattle.sampling.specs.Photographs.{goodPhotograph}
 use Rattle.sampling.proofs.Inside.{Sized}
 use Rattle.refine.specs.declared.Request.{Request}
-use Rattle.refine.specs.Refine.{Photograph, Check, check, first, entryChecks, entry}
-use Rattle.refine.proofs.Checks.{passed}
+use Rattle.refine.specs.Refine.{Photograph, entryChecks, entry}
 use Rattle.marking.specs.Marking.{area, markingEntry}
-
--- ---- a list of checks
-
--- none of the checks has the number 0
-abbrev numbered : List Check → Bool
-numbered [] = true
-numbered (c ∷ cs) = not (eqb (c .number) number.answer) && numbered cs
-
--- a check behind others counts where these pass
-one-more : (cs : List Check) (d : Check) → numbered cs ≡ true → first (cs ++ d ∷ []) ≡ (if eqb (first cs) number.answer then first (d ∷ []) else first cs)
-one-more [] d h = refl
-one-more (c ∷ cs) d h =
-    let named = both (not (eqb (c .number) number.answer)) (numbered cs) h in
-    go (c .passes) _ (first cs) (first (d ∷ [])) (c .number) (not-true (eqb (c .number) number.answer) (named .0)) (one-more cs d (named .1))
-  where
-    go : (b : Bool) (all front last n : ℕ) → eqb n number.answer ≡ false → all ≡ (if eqb front number.answer then last else front)
-        → (if b then all else n) ≡ (if eqb (if b then front else n) number.answer then last else if b then front else n)
-    go true all front last n z more = more
-    go false all front last n z more = rw z
-
--- where the number of both is 0, so is that of the others, n, and that of the one behind, m
-behind : (n m : ℕ) → (if eqb n number.answer then m else n) ≡ number.answer → (n ≡ number.answer) × (m ≡ number.answer)
-behind zero m h = (refl, h)
-behind (suc n) m h = absurd (never (rw (eqb·suc-zero n) at h))
-  where
-    never : suc n ≡ 0 → ⊥
-    never e = omega arith
 
 -- width × height bytes or more, in rows of width bytes, pass check 2
 pub good-rows : (w h n : ℕ) → Sized w h → w * h ≤ n → goodPhotograph w h w n ≡ true
@@ -61,14 +35,17 @@ module _ (r : Request) (ms : List ℕ) (p : Photograph) (s c : ℕ) where
   pub marking-entry : markingEntry r ms p s c
       ≡ (if eqb (entry r ms p) number.answer then if leb (area r) s && leb (area r) c then number.answer else number.sheet else entry r ms p)
   unfolding markingEntry entry
-  marking-entry = one-more (entryChecks r ms p) (check number.sheet (leb (area r) s && leb (area r) c)) refl
+  marking-entry = behind (entryChecks r ms p) (check number.sheet (leb (area r) s && leb (area r) c) ∷ []) refl
 
   -- a call that passes all passes those of the refinement call, and its sheet and copy are long enough
   pub entered : markingEntry r ms p s c ≡ number.answer → (entry r ms p ≡ number.answer) × (area r ≤ s) × (area r ≤ c)
+  unfolding markingEntry entry
   entered h =
-      let six = behind (entry r ms p) _ (sym marking-entry ∙ h) in
-      let seven = both (leb (area r) s) (leb (area r) c) (passed (leb (area r) s && leb (area r) c) number.answer 6 (six .1) .0) in
-      (six .0, leb-true (area r) s (seven .0), leb-true (area r) c (seven .1))
+      let sheets = check number.sheet (leb (area r) s && leb (area r) c) ∷ [] in
+      let all = all-zero (entryChecks r ms p) sheets refl h in
+      let passes = both (leb (area r) s && leb (area r) c) true (zero-exactly sheets refl .0 (all .1)) .0 in
+      let seven = both (leb (area r) s) (leb (area r) c) passes in
+      (all .0, leb-true (area r) s (seven .0), leb-true (area r) c (seven .1))
 
   -- and such a call passes all
   pub enters-marking : entry r ms p ≡ number.answer → area r ≤ s → area r ≤ c → markingEntry r ms p s c ≡ number.answer

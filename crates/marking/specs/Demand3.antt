@@ -6,10 +6,10 @@ use Prim.Native.Nat.{ℕ, _+_, _*_, _≤_, _<_}
 use mathlib.Core.Bool.{true}
 use mathlib.Core.List.{List}
 use lib.ListN.{length, getD, take, drop}
+use Rattle.prelude.specs.Prelude.{if_then_else_, bit}
 use Rattle.number.specs.Numbers as number
-use Rattle.ieee.specs.Floats.{if_then_else_}
 use Rattle.sampling.specs.Photographs.{Pixel}
-use Rattle.look.specs.Sheets.{isRead, bit}
+use Rattle.sample_tree.specs.Sheets.{isRead}
 use Rattle.corners.specs.declared.Answer.{Answer}
 use Rattle.refine.specs.declared.Request.{Request}
 use Rattle.refine.specs.Refine.{Photograph, cells, shown, readsOf}

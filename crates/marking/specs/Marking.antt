@@ -5,16 +5,17 @@ use mathlib.Core.Bool.{true, _&&_}
 use mathlib.Core.List.{List, [], _∷_, _++_}
 use lib.Dec.{leb, eqb}
 use lib.ListN.{length, drop}
+use Rattle.prelude.specs.Checks.{check, first}
+use Rattle.prelude.specs.Prelude.{if_then_else_}
 use Rattle.number.specs.Numbers as number
-use Rattle.ieee.specs.Floats.{if_then_else_}
 use Rattle.sampling.specs.Photographs.{Photo, goodSize}
 use Rattle.sampling.specs.declared.Scene.{Scene}
-use Rattle.look.specs.Look.{Look, value, reads}
-use Rattle.look.specs.Sheets as Sheets
+use Rattle.sample_tree.specs.SampleTree.{SampleTree, value, reads}
+use Rattle.sample_tree.specs.Sheets as Sheets
 use Rattle.corners.specs.declared.Answer.{Answer}
 use Rattle.corners.specs.Corners.{refused}
 use Rattle.refine.specs.declared.Request.{Request}
-use Rattle.refine.specs.Refine.{Photograph, check, first, entryChecks, shown, result, readsOf}
+use Rattle.refine.specs.Refine.{Photograph, entryChecks, shown, result, readsOf}
 
 -- the bytes of the sheet, and of the copy, that a run writes
 abbrev pub area : Request → ℕ
@@ -25,7 +26,7 @@ unfoldable pub markingEntry : Request → List ℕ → Photograph → ℕ → �
 markingEntry r ms p sheetBytes copyBytes = first (entryChecks r ms p ++ check number.sheet (leb (area r) sheetBytes && leb (area r) copyBytes) ∷ [])
 
 -- The step t, in the scene e over the photograph p, ends in r. It takes the sheet from s to s′ and the copy from c to c′.
-pub record RunsMarked {A : Type 0} (e : Scene) (p : Photo) (t : Look A) (r : A) (s s′ c c′ : List ℕ) : Type 0 where
+pub record RunsMarked {A : Type 0} (e : Scene) (p : Photo) (t : SampleTree A) (r : A) (s s′ c c′ : List ℕ) : Type 0 where
   pub answer : r ≡ value e p t
   pub sheet : s′ ≡ Sheets.sheet (e .width) (e .height) (reads e p t) ++ drop (e .width * e .height) s
   pub copy : c′ ≡ Sheets.copy (e .width) (e .height) p (reads e p t) ++ drop (e .width * e .height) c

@@ -15,19 +15,19 @@ use Rattle.peak.specs.declared.Gradients.{Gradients}
 use Rattle.peak.specs.declared.Peaked.{Peaked}
 use Rattle.peak.specs.declared.Peaked.the-variants.{Peak, NoPeak}
 use Rattle.peak.specs.declared.Extrapolated.{Extrapolated}
-use Rattle.peak.specs.declared.Extrapolated.the-variants.{Settled, Moved, Lost}
-use Rattle.peak.specs.Peak.{gradient, tailSum, corrected, five, clears, best, vertex, peakAt}
+use Rattle.peak.specs.declared.Extrapolated.the-variants.{Converged, Shifted, Diverged}
+use Rattle.peak.specs.Peak.{gradient, tailSum, corrected, innerGradients, aboveContrastFloor, peakIndex, vertex, peakAt}
 use Rattle.peak.specs.Aitken.{extrapolate, moved, aitken}
 
 -- ---- gradients
 
-pub kept : (s : List Float) {g : Gradients} → g ≡ five (gradient s) → g ≡ five (corrected false s)
-unfolding five corrected
+pub kept : (s : List Float) {g : Gradients} → g ≡ innerGradients (gradient s) → g ≡ innerGradients (corrected false s)
+unfolding innerGradients corrected
 kept s h = h
 
-pub unfolded : (s : List Float) {g : Gradients} → g ≡ five (gradient s)
-    → record { g1 = f0 ⊕ g .g1 ⊕ g .g3 ⊕ g .g5; g2 = f0 ⊕ g .g2 ⊕ g .g4 ⊕ f0; g3 = f0 ⊕ g .g3 ⊕ g .g5; g4 = f0 ⊕ g .g4 ⊕ f0; g5 = f0 ⊕ g .g5 } ≡ five (corrected true s)
-unfolding five corrected tailSum gradient
+pub unfolded : (s : List Float) {g : Gradients} → g ≡ innerGradients (gradient s)
+    → record { g1 = f0 ⊕ g .g1 ⊕ g .g3 ⊕ g .g5; g2 = f0 ⊕ g .g2 ⊕ g .g4 ⊕ f0; g3 = f0 ⊕ g .g3 ⊕ g .g5; g4 = f0 ⊕ g .g4 ⊕ f0; g5 = f0 ⊕ g .g5 } ≡ innerGradients (corrected true s)
+unfolding innerGradients corrected tailSum gradient
 unfolded s {g} h =
     ap (λ (z : Gradients). record { g1 = f0 ⊕ z .g1 ⊕ z .g3 ⊕ z .g5; g2 = f0 ⊕ z .g2 ⊕ z .g4 ⊕ f0; g3 = f0 ⊕ z .g3 ⊕ z .g5; g4 = f0 ⊕ z .g4 ⊕ f0; g5 = f0 ⊕ z .g5 }) h
 
@@ -60,31 +60,31 @@ module _ (gm1 g0 gp1 : Float) (i : ℕ) where
 -- ---- the choice of the peak
 
 module _ (s : Settings) (inverted : Bool) (g : ℕ → Float) where
-  pub at-3 : clears s inverted (g 3) ≡ true → vertex (g 2) (g 3) (g 4) 3 ≡ peakAt g (best s inverted g)
-  unfolding best peakAt
-  at-3 e = rw (e, best)
+  pub at-3 : aboveContrastFloor s inverted (g 3) ≡ true → vertex (g 2) (g 3) (g 4) 3 ≡ peakAt g (peakIndex s inverted g)
+  unfolding peakIndex peakAt
+  at-3 e = rw (e, peakIndex)
 
-  pub at-4-over : clears s inverted (g 3) ≡ false → clears s inverted (g 2) ≡ true → clears s inverted (g 4) ≡ true → (magnitude (g 2) ≺ magnitude (g 4)) ≡ true
-      → vertex (g 3) (g 4) (g 5) 4 ≡ peakAt g (best s inverted g)
-  unfolding best peakAt
-  at-4-over e f h k = rw (e, f, h, k, best)
+  pub at-4-over : aboveContrastFloor s inverted (g 3) ≡ false → aboveContrastFloor s inverted (g 2) ≡ true → aboveContrastFloor s inverted (g 4) ≡ true → (magnitude (g 2) ≺ magnitude (g 4)) ≡ true
+      → vertex (g 3) (g 4) (g 5) 4 ≡ peakAt g (peakIndex s inverted g)
+  unfolding peakIndex peakAt
+  at-4-over e f h k = rw (e, f, h, k, peakIndex)
 
-  pub at-2-over : clears s inverted (g 3) ≡ false → clears s inverted (g 2) ≡ true → clears s inverted (g 4) ≡ true → (magnitude (g 2) ≺ magnitude (g 4)) ≡ false
-      → vertex (g 1) (g 2) (g 3) 2 ≡ peakAt g (best s inverted g)
-  unfolding best peakAt
-  at-2-over e f h k = rw (e, f, h, k, best)
+  pub at-2-over : aboveContrastFloor s inverted (g 3) ≡ false → aboveContrastFloor s inverted (g 2) ≡ true → aboveContrastFloor s inverted (g 4) ≡ true → (magnitude (g 2) ≺ magnitude (g 4)) ≡ false
+      → vertex (g 1) (g 2) (g 3) 2 ≡ peakAt g (peakIndex s inverted g)
+  unfolding peakIndex peakAt
+  at-2-over e f h k = rw (e, f, h, k, peakIndex)
 
-  pub at-2 : clears s inverted (g 3) ≡ false → clears s inverted (g 2) ≡ true → clears s inverted (g 4) ≡ false → vertex (g 1) (g 2) (g 3) 2 ≡ peakAt g (best s inverted g)
-  unfolding best peakAt
-  at-2 e f h = rw (e, f, h, best)
+  pub at-2 : aboveContrastFloor s inverted (g 3) ≡ false → aboveContrastFloor s inverted (g 2) ≡ true → aboveContrastFloor s inverted (g 4) ≡ false → vertex (g 1) (g 2) (g 3) 2 ≡ peakAt g (peakIndex s inverted g)
+  unfolding peakIndex peakAt
+  at-2 e f h = rw (e, f, h, peakIndex)
 
-  pub at-4 : clears s inverted (g 3) ≡ false → clears s inverted (g 2) ≡ false → clears s inverted (g 4) ≡ true → vertex (g 3) (g 4) (g 5) 4 ≡ peakAt g (best s inverted g)
-  unfolding best peakAt
-  at-4 e f h = rw (e, f, h, best)
+  pub at-4 : aboveContrastFloor s inverted (g 3) ≡ false → aboveContrastFloor s inverted (g 2) ≡ false → aboveContrastFloor s inverted (g 4) ≡ true → vertex (g 3) (g 4) (g 5) 4 ≡ peakAt g (peakIndex s inverted g)
+  unfolding peakIndex peakAt
+  at-4 e f h = rw (e, f, h, peakIndex)
 
-  pub nowhere : clears s inverted (g 3) ≡ false → clears s inverted (g 2) ≡ false → clears s inverted (g 4) ≡ false → NoPeak ≡ peakAt g (best s inverted g)
-  unfolding best peakAt
-  nowhere e f h = rw (e, f, h, best)
+  pub nowhere : aboveContrastFloor s inverted (g 3) ≡ false → aboveContrastFloor s inverted (g 2) ≡ false → aboveContrastFloor s inverted (g 4) ≡ false → NoPeak ≡ peakAt g (peakIndex s inverted g)
+  unfolding peakIndex peakAt
+  nowhere e f h = rw (e, f, h, peakIndex)
 
 -- ---- three projections
 
@@ -95,20 +95,20 @@ module _ (step x0 x1 x2 : Float) where
   abbrev correction : Float
   correction = (x2 ⊖ x1) ⊗ (x2 ⊖ x1) ⊘ bend
 
-  pub settled : (magnitude bend ≺ f1e-6) ≡ true → Settled ≡ extrapolate step x0 x1 x2
+  pub settled : (magnitude bend ≺ f1e-6) ≡ true → Converged ≡ extrapolate step x0 x1 x2
   unfolding extrapolate
   settled e = rw (e, extrapolate)
 
-  pub lost : (magnitude bend ≺ f1e-6) ≡ false → isFinite correction ≡ false → Lost ≡ extrapolate step x0 x1 x2
+  pub lost : (magnitude bend ≺ f1e-6) ≡ false → isFinite correction ≡ false → Diverged ≡ extrapolate step x0 x1 x2
   unfolding extrapolate
   lost e f = rw (e, f, extrapolate)
 
-  pub lost-far : (magnitude bend ≺ f1e-6) ≡ false → isFinite correction ≡ true → (step ≺ magnitude correction) ≡ true → Lost ≡ extrapolate step x0 x1 x2
+  pub lost-far : (magnitude bend ≺ f1e-6) ≡ false → isFinite correction ≡ true → (step ≺ magnitude correction) ≡ true → Diverged ≡ extrapolate step x0 x1 x2
   unfolding extrapolate
   lost-far e f g = rw (e, f, g, extrapolate)
 
   pub drawn : (magnitude bend ≺ f1e-6) ≡ false → isFinite correction ≡ true → (step ≺ magnitude correction) ≡ false
-      → Moved ((x2 ⊖ correction) ⊖ x2) ≡ extrapolate step x0 x1 x2
+      → Shifted ((x2 ⊖ correction) ⊖ x2) ≡ extrapolate step x0 x1 x2
   unfolding extrapolate
   drawn e f g = rw (e, f, g, extrapolate)
 
@@ -126,15 +126,15 @@ pub over : (t : Float) {a b : Float} {v : Bool} → a ≡ b → (t ≺ a) ≡ v 
 over t e h = sym (ap (λ (z : Float). t ≺ z) e) ∙ h
 
 -- g holds the five that f gives: what is said of g's is said of f's
-module _ (f : ℕ → Float) {g : Gradients} (e : g ≡ five f) where
-  pub said : (s : Settings) (inverted : Bool) (of : Gradients → Float) {b v : Bool} → b ≡ clears s inverted (of g) → b ≡ v → clears s inverted (of (five f)) ≡ v
-  said s inverted of hb hv = sym (hb ∙ ap (λ (h : Gradients). clears s inverted (of h)) e) ∙ hv
+module _ (f : ℕ → Float) {g : Gradients} (e : g ≡ innerGradients f) where
+  pub said : (s : Settings) (inverted : Bool) (of : Gradients → Float) {b v : Bool} → b ≡ aboveContrastFloor s inverted (of g) → b ≡ v → aboveContrastFloor s inverted (of (innerGradients f)) ≡ v
+  said s inverted of hb hv = sym (hb ∙ ap (λ (h : Gradients). aboveContrastFloor s inverted (of h)) e) ∙ hv
 
   pub less : (of other : Gradients → Float) {a b : Float} {v : Bool} → a ≡ magnitude (of g) → b ≡ magnitude (other g) → (a ≺ b) ≡ v
-      → (magnitude (of (five f)) ≺ magnitude (other (five f))) ≡ v
+      → (magnitude (of (innerGradients f)) ≺ magnitude (other (innerGradients f))) ≡ v
   less of other ha hb h = under _ (ha ∙ ap (λ (k : Gradients). magnitude (of k)) e) (over _ (hb ∙ ap (λ (k : Gradients). magnitude (other k)) e) h)
 
-  pub peaked : (of : Gradients → Peaked) {v : Peaked} → v ≡ of g → v ≡ of (five f)
+  pub peaked : (of : Gradients → Peaked) {v : Peaked} → v ≡ of g → v ≡ of (innerGradients f)
   peaked of h = h ∙ ap of e
 
 abbrev pub second : Gradients → Float

@@ -4,14 +4,15 @@ use mathlib.Core.Bool.{not, _||_}
 use mathlib.Core.List.{List}
 use lib.ListN.{getD}
 use lib.Ieee.{Float, nan}
+use Rattle.prelude.specs.Prelude.{if_then_else_}
 use Rattle.ieee.specs.Parts.{isFinite, magnitude}
-use Rattle.ieee.specs.Floats.{if_then_else_, _⊕_, _⊖_, _⊗_, _⊘_, _≺_, f2, f1e-6}
+use Rattle.ieee.specs.Floats.{_⊕_, _⊖_, _⊗_, _⊘_, _≺_, f2, f1e-6}
 use Rattle.pixel.specs.Pixels.{source, edgePoint}
 use Rattle.pixel.specs.declared.SourcePixel.{SourcePixel}
 use Rattle.pixel.specs.declared.Direction.{Direction}
 use Rattle.pixel.specs.declared.EdgePoint.{EdgePoint}
 use Rattle.peak.specs.declared.Extrapolated.{Extrapolated}
-use Rattle.peak.specs.declared.Extrapolated.the-variants.{Settled, Moved, Lost}
+use Rattle.peak.specs.declared.Extrapolated.the-variants.{Converged, Shifted, Diverged}
 use Rattle.peak.specs.declared.Located.{Located}
 use Rattle.peak.specs.declared.Located.the-variants.{Found, NoEdge}
 
@@ -20,17 +21,17 @@ unfoldable pub extrapolate : Float → Float → Float → Float → Extrapolate
 extrapolate step x0 x1 x2 =
     let denom = x2 ⊖ f2 ⊗ x1 ⊕ x0 in
     let correction = (x2 ⊖ x1) ⊗ (x2 ⊖ x1) ⊘ denom in
-    if magnitude denom ≺ f1e-6 then Settled else
-    if not (isFinite correction) || (step ≺ magnitude correction) then Lost else
-    Moved ((x2 ⊖ correction) ⊖ x2)
+    if magnitude denom ≺ f1e-6 then Converged else
+    if not (isFinite correction) || (step ≺ magnitude correction) then Diverged else
+    Shifted ((x2 ⊖ correction) ⊖ x2)
 
 unfoldable pub projection : Direction → SourcePixel → Float
 projection normal p = p .0 ⊗ normal .x ⊕ p .1 ⊗ normal .y
 
 unfoldable pub moved : Direction → EdgePoint → Extrapolated → Located
-moved normal p Settled = Found p
-moved normal p Lost = NoEdge
-moved normal p (Moved along) = Found (edgePoint (source (p .pos .0 ⊕ normal .x ⊗ along) (p .pos .1 ⊕ normal .y ⊗ along)) (p .weight))
+moved normal p Converged = Found p
+moved normal p Diverged = NoEdge
+moved normal p (Shifted along) = Found (edgePoint (source (p .pos .0 ⊕ normal .x ⊗ along) (p .pos .1 ⊕ normal .y ⊗ along)) (p .weight))
 
 -- the third point, moved to where the three projections tend
 unfoldable pub aitken : Direction → Float → EdgePoint → List Float → Located

@@ -7,8 +7,9 @@ use mathlib.Core.Option.{Option, none, some}
 use lib.Dec.{ltb}
 use lib.ListN.{getD}
 use lib.Ieee.{Float, nan}
+use Rattle.prelude.specs.Prelude.{if_then_else_}
 use Rattle.ieee.specs.Parts.{isFinite, magnitude}
-use Rattle.ieee.specs.Floats.{if_then_else_, _⊕_, _⊖_, _⊗_, _⊘_, _≺_, _≼_, float, f0, f1, f-1, f2, f3, f½, f1e-9}
+use Rattle.ieee.specs.Floats.{_⊕_, _⊖_, _⊗_, _⊘_, _≺_, _≼_, float, f0, f1, f-1, f2, f3, f½, f1e-9}
 use Rattle.consts.specs.declared.Settings.{Settings}
 use Rattle.peak.specs.declared.Gradients.{Gradients}
 use Rattle.peak.specs.declared.Peaked.{Peaked}
@@ -30,19 +31,19 @@ unfoldable pub corrected : Bool → List Float → ℕ → Float
 corrected inwardDiffers s i = if inwardDiffers then tailSum s 4 i f0 else gradient s i
 
 -- those that a peak can need
-unfoldable pub five : (ℕ → Float) → Gradients
-five g = record { g1 = g 1; g2 = g 2; g3 = g 3; g4 = g 4; g5 = g 5 }
+unfoldable pub innerGradients : (ℕ → Float) → Gradients
+innerGradients g = record { g1 = g 1; g2 = g 2; g3 = g 3; g4 = g 4; g5 = g 5 }
 
 -- ---- the peak
 
 -- of the sign that the polarity gives an edge, and not below the contrast floor
-unfoldable pub clears : Settings → Bool → Float → Bool
-clears s inverted g = float (s .«contrast_floor») ≼ g ⊗ (if inverted then f-1 else f1)
+unfoldable pub aboveContrastFloor : Settings → Bool → Float → Bool
+aboveContrastFloor s inverted g = float (s .«contrast_floor») ≼ g ⊗ (if inverted then f-1 else f1)
 
 -- 3 first, then of 2 and 4 the one of larger magnitude, then 2
-unfoldable pub best : Settings → Bool → (ℕ → Float) → Option ℕ
-best s inverted g =
-    let ok : ℕ → Bool = λ i. clears s inverted (g i) in
+unfoldable pub peakIndex : Settings → Bool → (ℕ → Float) → Option ℕ
+peakIndex s inverted g =
+    let ok : ℕ → Bool = λ i. aboveContrastFloor s inverted (g i) in
     if ok 3 then some 3 else
     if ok 2 && ok 4 then (if magnitude (g 2) ≺ magnitude (g 4) then some 4 else some 2) else
     if ok 2 then some 2 else if ok 4 then some 4 else none
@@ -61,9 +62,9 @@ peakAt g none = NoPeak
 peakAt g (some i) = vertex (g (i - 1)) (g i) (g (i + 1)) i
 
 unfoldable pub peak : Settings → Bool → Bool → List Float → Peaked
-peak s inverted inwardDiffers samples = peakAt (corrected inwardDiffers samples) (best s inverted (corrected inwardDiffers samples))
+peak s inverted inwardDiffers samples = peakAt (corrected inwardDiffers samples) (peakIndex s inverted (corrected inwardDiffers samples))
 
 -- all of the above, for a proof that computes with them: to unfold this is to unfold what its line names
 unfoldable pub opened : Unit {0}
-unfolding gradient tailSum corrected five clears best vertex peakAt peak
+unfolding gradient tailSum corrected innerGradients aboveContrastFloor peakIndex vertex peakAt peak
 opened = tt

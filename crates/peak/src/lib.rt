@@ -2,9 +2,9 @@
 // profile, and where three passes tend.
 ghost use mathlib.Core.Path.{_≡_};
 ghost use Rattle.peak.specs.Peak.{
-  clears as clearsBy,
+  aboveContrastFloor,
   corrected as correctedAt,
-  five,
+  innerGradients,
   gradient,
   peak as peakOf,
   vertex as vertexOf,
@@ -27,9 +27,9 @@ pub enum Peaked {
 
 // What three passes come to: the third stands, or is moved along the normal, or nothing.
 pub enum Extrapolated {
-    Settled,
-    Moved(f64),
-    Lost,
+    Converged,
+    Shifted(f64),
+    Diverged,
 }
 
 // An edge point, or none.
@@ -51,7 +51,7 @@ pub struct Gradients {
 
 // The central differences of seven samples.
 fn gradients_of(s: [f64; 7]) -> Gradients
-    ensures { λ r. ⌜ r ≡ five (gradient s) ⌝ }
+    ensures { λ r. ⌜ r ≡ innerGradients (gradient s) ⌝ }
 {
     Gradients {
         g1: s[2] - s[0],
@@ -65,7 +65,7 @@ fn gradients_of(s: [f64; 7]) -> Gradients
 // The gradients of a profile, unfolded by stride 2, one module, where the inward neighbour is light. Those
 // at both ends are 0, and the last one takes part.
 fn corrected(s: [f64; 7], inward_differs: bool) -> Gradients
-    ensures { λ r. ⌜ r ≡ five (correctedAt «inward_differs» s) ⌝ }
+    ensures { λ r. ⌜ r ≡ innerGradients (correctedAt «inward_differs» s) ⌝ }
 {
     let g = gradients_of(s);
     if inward_differs {
@@ -84,8 +84,8 @@ fn corrected(s: [f64; 7], inward_differs: bool) -> Gradients
 
 // Whether a gradient has the sign that the polarity gives an edge, and is not below the contrast
 // floor.
-fn clears(settings: Settings, inverted: bool, g: f64) -> bool
-    ensures { λ r. ⌜ r ≡ clearsBy settings inverted g ⌝ }
+fn above_contrast_floor(settings: Settings, inverted: bool, g: f64) -> bool
+    ensures { λ r. ⌜ r ≡ aboveContrastFloor settings inverted g ⌝ }
 {
     let floor = settings.contrast_floor as f64;
     if inverted {
@@ -118,11 +118,11 @@ pub fn find_peak(settings: Settings, inverted: bool, inward_differs: bool, s: [f
     ensures { λ r. ⌜ r ≡ peakOf settings inverted «inward_differs» s ⌝ }
 {
     let g = corrected(s, inward_differs);
-    if clears(settings, inverted, g.g3) {
+    if above_contrast_floor(settings, inverted, g.g3) {
         return vertex(g.g2, g.g3, g.g4, 3);
     }
-    if clears(settings, inverted, g.g2) {
-        if !clears(settings, inverted, g.g4) {
+    if above_contrast_floor(settings, inverted, g.g2) {
+        if !above_contrast_floor(settings, inverted, g.g4) {
             return vertex(g.g1, g.g2, g.g3, 2);
         }
         if ieee::abs(g.g2) < ieee::abs(g.g4) {
@@ -130,7 +130,7 @@ pub fn find_peak(settings: Settings, inverted: bool, inward_differs: bool, s: [f
         }
         return vertex(g.g1, g.g2, g.g3, 2);
     }
-    if clears(settings, inverted, g.g4) {
+    if above_contrast_floor(settings, inverted, g.g4) {
         return vertex(g.g3, g.g4, g.g5, 4);
     }
     Peaked::NoPeak
@@ -144,16 +144,16 @@ fn extrapolate(step: f64, x0: f64, x1: f64, x2: f64) -> Extrapolated
 {
     let denom = x2 - 2.0 * x1 + x0;
     if ieee::abs(denom) < 1e-6 {
-        return Extrapolated::Settled;
+        return Extrapolated::Converged;
     }
     let correction = (x2 - x1) * (x2 - x1) / denom;
     if !ieee::is_finite(correction) {
-        return Extrapolated::Lost;
+        return Extrapolated::Diverged;
     }
     if ieee::abs(correction) > step {
-        return Extrapolated::Lost;
+        return Extrapolated::Diverged;
     }
-    Extrapolated::Moved((x2 - correction) - x2)
+    Extrapolated::Shifted((x2 - correction) - x2)
 }
 
 // How far along the normal a place lies.
@@ -169,11 +169,11 @@ pub fn aitken(normal: Direction, step: f64, p: EdgePoint, xs: [f64; 3]) -> Locat
 {
     let limit = extrapolate(step, xs[0], xs[1], xs[2]);
     match limit {
-        Extrapolated::Settled => Located::Found(p),
-        Extrapolated::Moved(along) => Located::Found(EdgePoint {
+        Extrapolated::Converged => Located::Found(p),
+        Extrapolated::Shifted(along) => Located::Found(EdgePoint {
             pos: SourcePixel(p.pos.0 + normal.x * along, p.pos.1 + normal.y * along),
             weight: p.weight,
         }),
-        Extrapolated::Lost => Located::NoEdge,
+        Extrapolated::Diverged => Located::NoEdge,
     }
 }

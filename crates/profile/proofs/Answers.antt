@@ -1,17 +1,20 @@
 -- What `localize_edge_point` answers: the number of the photograph or of the camera where that is not 0, and else what the run ends in.
 -- Assumes nothing.
-use mathlib.Core.Path.{_≡_, sym, ap, _∙_}
+use mathlib.Core.Path.{_≡_, refl, sym, ap, _∙_}
 use Prim.Native.Nat.{ℕ}
 use mathlib.Core.Bool.{true, false}
-use mathlib.Core.List.{List}
+use mathlib.Core.List.{List, [], _∷_}
 use lib.ListN.{length}
 use borrow.Author.Tests.{eq-eqb, ne-eqb}
+use Rattle.prelude.proofs.Checks.{refused-before, passed-before}
+use Rattle.number.specs.Numbers as number
+use Rattle.prelude.specs.Checks.{Check, check}
 use Rattle.consts.specs.Consts.{defaults}
 use Rattle.consts.specs.declared.Settings.{Settings}
-use Rattle.sampling.specs.Photographs.{photo, photographNumber}
+use Rattle.sampling.specs.Photographs.{photo, photographChecks, photographNumber}
 use Rattle.sampling.specs.Sampling.{goodView}
 use Rattle.sampling.specs.declared.Scene.{Scene}
-use Rattle.look.specs.Look.{value}
+use Rattle.sample_tree.specs.SampleTree.{value}
 use Rattle.peak.specs.declared.Located.{Located}
 use Rattle.profile.specs.declared.Ray.{Ray}
 use Rattle.profile.specs.Profile.{localize, noPoint, pointAnswer, viewNumber, localizeEdgePoint}
@@ -19,17 +22,23 @@ use Rattle.profile.specs.Profile.{localize, noPoint, pointAnswer, viewNu
 -- ---- the photograph and the camera
 
 module _ (bytes : List ℕ) (stride : ℕ) (e : Scene) {n : ℕ} (is : n ≡ photographNumber (e .width) (e .height) stride (length bytes)) where
+  abbrev front : List Check
+  front = photographChecks (e .width) (e .height) stride (length bytes)
+
+  abbrev behind : List Check
+  behind = check number.lens (goodView (e .view)) ∷ []
+
   pub photograph-refused : (n ≡ 0 → ⊥) → n ≡ viewNumber bytes stride e
-  unfolding viewNumber
-  photograph-refused k = is ∙ rw (ne-eqb (photographNumber (e .width) (e .height) stride (length bytes)) 0 (λ z. k (is ∙ z)), viewNumber)
+  unfolding viewNumber photographNumber
+  photograph-refused k = is ∙ sym (refused-before front behind refl (λ z. k (is ∙ z)))
 
   pub camera-refused : n ≡ 0 → goodView (e .view) ≡ false → 6 ≡ viewNumber bytes stride e
-  unfolding viewNumber
-  camera-refused k g = rw (eq-eqb (photographNumber (e .width) (e .height) stride (length bytes)) 0 (sym is ∙ k), g, viewNumber)
+  unfolding viewNumber photographNumber
+  camera-refused k g = sym (passed-before front behind refl (sym is ∙ k) ∙ rw g)
 
   pub none-refused : n ≡ 0 → goodView (e .view) ≡ true → 0 ≡ viewNumber bytes stride e
-  unfolding viewNumber
-  none-refused k g = rw (eq-eqb (photographNumber (e .width) (e .height) stride (length bytes)) 0 (sym is ∙ k), g, viewNumber)
+  unfolding viewNumber photographNumber
+  none-refused k g = sym (passed-before front behind refl (sym is ∙ k) ∙ rw g)
 
 -- ---- the point
 

@@ -12,8 +12,8 @@ use Rattle.consts.specs.declared.Settings.{Settings}
 use Rattle.pixel.specs.declared.SourcePixel.{SourcePixel}
 use Rattle.sampling.specs.declared.Sampled.{Sampled}
 use Rattle.sampling.specs.declared.Sampled.the-variants.{Luma, Outside}
-use Rattle.look.specs.Look.{Look, done, taken}
-use Rattle.look.proofs.Bounds.{AtMost, taken-most, most-done, most-sample, most-bind}
+use Rattle.sample_tree.specs.SampleTree.{SampleTree, done, sampleCount}
+use Rattle.sample_tree.proofs.Bounds.{AtMost, taken-most, most-done, most-sample, most-bind}
 use Rattle.pixel.specs.Pixels.{edgePoint}
 use Rattle.pixel.specs.declared.Direction.{Direction}
 use Rattle.pixel.specs.declared.EdgePoint.{EdgePoint}
@@ -21,19 +21,19 @@ use Rattle.peak.specs.declared.Located.{Located}
 use Rattle.peak.specs.declared.Located.the-variants.{Found, NoEdge}
 use Rattle.profile.specs.declared.Ray.{Ray}
 use Rattle.peak.specs.Aitken.{projection, aitken}
-use Rattle.profile.specs.Profile.{stepped, gather, profile, pass, passed, andThen, _>>=_, passes, localize}
+use Rattle.profile.specs.Profile.{offsetAlong, sampleProfile, profile, pass, passed, andThen, _>>=_, passes, localize}
 
 module _ (normal : Direction) (step : Float) where
-  rest : SourcePixel → ℕ → ℕ → List Float → Sampled → Look (Option (List Float))
-  rest c n k got r = elim r [ Luma v ↦ gather normal step c n (suc k) (got ++ v ∷ []) | Outside ↦ done none ]
+  rest : SourcePixel → ℕ → ℕ → List Float → Sampled → SampleTree (Option (List Float))
+  rest c n k got r = elim r [ Luma v ↦ sampleProfile normal step c n (suc k) (got ++ v ∷ []) | Outside ↦ done none ]
 
-  gather-most : (c : SourcePixel) (n k : ℕ) (got : List Float) → AtMost n (gather normal step c n k got)
-  unfolding gather rest
+  gather-most : (c : SourcePixel) (n k : ℕ) (got : List Float) → AtMost n (sampleProfile normal step c n k got)
+  unfolding sampleProfile rest
   gather-most c zero k got = most-done 0 (some got)
   gather-most c (suc n) k got =
-      most-sample n (stepped normal step c (float k ⊖ f3)) (rest c n k got) (each (λ v. gather-most c n (suc k) (got ++ v ∷ [])))
+      most-sample n (offsetAlong normal step c (float k ⊖ f3)) (rest c n k got) (each (λ v. gather-most c n (suc k) (got ++ v ∷ [])))
     where
-      each : ((v : Float) → AtMost n (gather normal step c n (suc k) (got ++ v ∷ []))) → (r : Sampled) → AtMost n (rest c n k got r)
+      each : ((v : Float) → AtMost n (sampleProfile normal step c n (suc k) (got ++ v ∷ []))) → (r : Sampled) → AtMost n (rest c n k got r)
       each f (Luma v) = f v
       each f Outside = most-done {A = Option (List Float)} n none
 
@@ -44,7 +44,7 @@ module _ (settings : Settings) (ray : Ray) where
       most-bind 7 0 (profile (ray .normal) (ray .step) c) (λ s. done (passed settings ray c s)) (gather-most (ray .normal) (ray .step) c 7 0 [])
       (λ s. most-done 0 (passed settings ray c s))
 
-  then-most : (n : ℕ) (f : EdgePoint → Look Located) → ((q : EdgePoint) → AtMost n (f q)) → (r : Located) → AtMost n (andThen f r)
+  then-most : (n : ℕ) (f : EdgePoint → SampleTree Located) → ((q : EdgePoint) → AtMost n (f q)) → (r : Located) → AtMost n (andThen f r)
   unfolding andThen
   then-most n f h NoEdge = most-done n NoEdge
   then-most n f h (Found q) = h q
@@ -56,11 +56,11 @@ module _ (settings : Settings) (ray : Ray) where
   unfolding passes _>>=_
   passes-most zero p xs = most-done 0 (aitken (ray .normal) (ray .step) p xs)
   passes-most (suc n) p xs =
-      let f : EdgePoint → Look Located = λ q. passes settings ray n q (xs ++ projection (ray .normal) (q .pos) ∷ []) in
+      let f : EdgePoint → SampleTree Located = λ q. passes settings ray n q (xs ++ projection (ray .normal) (q .pos) ∷ []) in
       subst (λ (l : ℕ). AtMost l (passes settings ray (suc n) p xs)) (sevens n)
       (most-bind 7 (7 * n) (pass settings ray (p .pos)) (andThen f) (pass-most (p .pos))
       (then-most (7 * n) f (λ q. passes-most n q (xs ++ projection (ray .normal) (q .pos) ∷ []))))
 
-  pub at-most-21 : (e : Scene) (p : Photo) → taken e p (localize settings ray) ≤ 21
+  pub at-most-21 : (e : Scene) (p : Photo) → sampleCount e p (localize settings ray) ≤ 21
   unfolding localize
   at-most-21 e p = taken-most e p 21 (localize settings ray) (passes-most 3 (edgePoint (ray .coarse) f0) [])

@@ -9,11 +9,12 @@ use mathlib.Core.Option.{Option, none, some}
 use lib.ListN.{length, take, set}
 use lib.Seq.{take-suc-set, take-all}
 use lib.Ieee.{Float}
+use Rattle.prelude.proofs.Lists.{one-less}
 use Rattle.consts.specs.declared.Settings.{Settings}
 use Rattle.pixel.specs.declared.SourcePixel.{SourcePixel}
-use Rattle.look.specs.Look.{Look, done}
-use Rattle.look.specs.Run.{Sampler, Runs}
-use Rattle.look.proofs.Steps.{Leads, start, then, called, end}
+use Rattle.sample_tree.specs.SampleTree.{SampleTree, done}
+use Rattle.sample_tree.specs.Run.{Sampler, Runs}
+use Rattle.sample_tree.proofs.Steps.{Leads, start, then, called, end}
 use Rattle.pixel.specs.declared.EdgePoint.{EdgePoint}
 use Rattle.peak.specs.declared.Peaked.{Peaked}
 use Rattle.peak.specs.declared.Peaked.the-variants.{Peak, NoPeak}
@@ -22,10 +23,10 @@ use Rattle.peak.specs.declared.Located.the-variants.{NoEdge}
 use Rattle.profile.specs.declared.Ray.{Ray}
 use Rattle.peak.specs.Peak.{peak}
 use Rattle.peak.specs.Aitken.{projection, aitken}
-use Rattle.profile.specs.Profile.{stepped, profile, found, passed, pass, andThen, _>>=_, passes}
+use Rattle.profile.specs.Profile.{offsetAlong, profile, found, passed, pass, andThen, _>>=_, passes}
 
 module _ {S : Type 0} (ask : Sampler S) (settings : Settings) (ray : Ray) (first : EdgePoint) where
-  abbrev whole : Look Located
+  abbrev whole : SampleTree Located
   whole = passes settings ray 3 first []
 
   -- what is left after so many passes
@@ -35,11 +36,8 @@ module _ {S : Type 0} (ask : Sampler S) (settings : Settings) (ray : Ray) (first
   pub none-yet : (s : S) (xs : List Float) → Passed s 0 first xs s
   none-yet s xs = start ask whole s
 
-  one-less : (n : ℕ) → n < 3 → 3 - n ≡ suc (3 - (n + 1))
-  one-less n l = omega arith
-
   -- what follows the pass n
-  onward : ℕ → List Float → EdgePoint → Look Located
+  onward : ℕ → List Float → EdgePoint → SampleTree Located
   onward n xs q = passes settings ray (3 - (n + 1)) q (take n xs ++ projection (ray .normal) (q .pos) ∷ [])
 
   ran : {n : ℕ} (q : EdgePoint) (xs : List Float) {s₀ s s′ : S} {r : Option (List Float)} → n < 3 → Passed s₀ n q xs s
@@ -48,7 +46,7 @@ module _ {S : Type 0} (ask : Sampler S) (settings : Settings) (ray : Ray) (first
   unfolding passes pass _>>=_ onward
   ran {n} q xs {s₀} {s} {s′} {r} l before h =
       then ask
-      (subst (λ (k : ℕ). Leads ask whole s₀ (passes settings ray k q (take n xs)) s) (one-less n l) before)
+      (subst (λ (k : ℕ). Leads ask whole s₀ (passes settings ray k q (take n xs)) s) (one-less 3 n l) before)
       (called ask (pass settings ray (q .pos)) (andThen (onward n xs))
       (end ask (called ask (profile (ray .normal) (ray .step) (q .pos)) (λ z. done (passed settings ray (q .pos) z)) h)))
 
@@ -74,10 +72,10 @@ module _ {S : Type 0} (ask : Sampler S) (settings : Settings) (ray : Ray) (first
   -- the pass has found a point, and its projection is in
   pub pass-done : {n : ℕ} (q : EdgePoint) (xs : List Float) {out : List Float} {s₀ s s′ : S} {z : Peaked} {offset weight x : Float} {c : SourcePixel} → n < 3 → length xs ≡ 3
       → Passed s₀ n q xs s → Runs ask (profile (ray .normal) (ray .step) (q .pos)) (some out) s s′ → z ≡ peak settings (ray .inverted) (ray .«inward_differs») out → z ≡ Peak offset weight
-      → c ≡ stepped (ray .normal) (ray .step) (q .pos) offset → x ≡ projection (ray .normal) c → Passed s₀ (n + 1) (record { pos = c; weight = weight }) (set xs n x) s′
+      → c ≡ offsetAlong (ray .normal) (ray .step) (q .pos) offset → x ≡ projection (ray .normal) c → Passed s₀ (n + 1) (record { pos = c; weight = weight }) (set xs n x) s′
   unfolding found andThen onward
   pass-done {n} q xs {out} {s₀} {s} {s′} {z} {offset} {weight} {x} {c} l len before h hz hk hc hx =
-      let there : Leads ask whole s₀ (onward n xs (record { pos = stepped (ray .normal) (ray .step) (q .pos) offset; weight = weight })) s′ = by-peak q xs l before h hz hk in
+      let there : Leads ask whole s₀ (onward n xs (record { pos = offsetAlong (ray .normal) (ray .step) (q .pos) offset; weight = weight })) s′ = by-peak q xs l before h hz hk in
       let here : Leads ask whole s₀ (onward n xs (record { pos = c; weight = weight })) s′ =
       subst (λ (y : SourcePixel). Leads ask whole s₀ (onward n xs (record { pos = y; weight = weight })) s′) (sym hc) there in
       let grown : take (n + 1) (set xs n x) ≡ take n xs ++ projection (ray .normal) c ∷ [] =

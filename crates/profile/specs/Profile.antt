@@ -7,19 +7,21 @@ use mathlib.Core.Option.{Option, none, some}
 use lib.Dec.{eqb}
 use lib.ListN.{length}
 use lib.Ieee.{Float}
+use Rattle.prelude.specs.Checks.{check, first}
+use Rattle.prelude.specs.Prelude.{if_then_else_}
 use Rattle.number.specs.Numbers as number
-use Rattle.ieee.specs.Floats.{if_then_else_, _⊕_, _⊖_, _⊗_, float, f0, f3}
+use Rattle.ieee.specs.Floats.{_⊕_, _⊖_, _⊗_, float, f0, f3}
 use Rattle.consts.specs.Consts.{defaults}
 use Rattle.consts.specs.declared.Settings.{Settings}
 use Rattle.pixel.specs.Pixels.{source, edgePoint}
 use Rattle.pixel.specs.declared.SourcePixel.{SourcePixel}
 use Rattle.pixel.specs.declared.Direction.{Direction}
 use Rattle.pixel.specs.declared.EdgePoint.{EdgePoint}
-use Rattle.sampling.specs.Photographs.{photo, photographNumber}
+use Rattle.sampling.specs.Photographs.{photo, photographChecks}
 use Rattle.sampling.specs.Sampling.{goodView}
 use Rattle.sampling.specs.declared.Sampled.the-variants.{Luma, Outside}
 use Rattle.sampling.specs.declared.Scene.{Scene}
-use Rattle.look.specs.Look.{Look, done, sample, value, _>>=_ as _>>=ₗ_}
+use Rattle.sample_tree.specs.SampleTree.{SampleTree, done, sample, value, _>>=_ as _>>=ₗ_}
 use Rattle.peak.specs.Peak.{peak}
 use Rattle.peak.specs.Aitken.{projection, aitken}
 use Rattle.peak.specs.declared.Peaked.{Peaked}
@@ -32,52 +34,52 @@ use Rattle.profile.specs.declared.Ray.{Ray}
 -- ---- the profile
 
 -- the place that lies at an offset of so many steps from c
-unfoldable pub stepped : Direction → Float → SourcePixel → Float → SourcePixel
-stepped normal step c offset = source (c .0 ⊕ normal .x ⊗ offset ⊗ step) (c .1 ⊕ normal .y ⊗ offset ⊗ step)
+unfoldable pub offsetAlong : Direction → Float → SourcePixel → Float → SourcePixel
+offsetAlong normal step c offset = source (c .0 ⊕ normal .x ⊗ offset ⊗ step) (c .1 ⊕ normal .y ⊗ offset ⊗ step)
 
 -- Samples k, k + 1, .. k + n - 1 of the profile around c, behind those that it has. The first that is rejected ends it.
-unfoldable pub gather : Direction → Float → SourcePixel → ℕ → ℕ → List Float → Look (Option (List Float))
-gather normal step c zero k got = done (some got)
-gather normal step c (suc n) k got =
-    sample (stepped normal step c (float k ⊖ f3))
-    (λ s. elim s [ Luma v ↦ gather normal step c n (suc k) (got ++ v ∷ []) | Outside ↦ done none ])
+unfoldable pub sampleProfile : Direction → Float → SourcePixel → ℕ → ℕ → List Float → SampleTree (Option (List Float))
+sampleProfile normal step c zero k got = done (some got)
+sampleProfile normal step c (suc n) k got =
+    sample (offsetAlong normal step c (float k ⊖ f3))
+    (λ s. elim s [ Luma v ↦ sampleProfile normal step c n (suc k) (got ++ v ∷ []) | Outside ↦ done none ])
 
 -- seven samples, at the offsets -3 to 3
-unfoldable pub profile : Direction → Float → SourcePixel → Look (Option (List Float))
-profile normal step c = gather normal step c 7 0 []
+unfoldable pub profile : Direction → Float → SourcePixel → SampleTree (Option (List Float))
+profile normal step c = sampleProfile normal step c 7 0 []
 
 -- ---- `localize_edge_point_pass`
 
 unfoldable pub found : Direction → Float → SourcePixel → Peaked → Located
 found normal step c NoPeak = NoEdge
-found normal step c (Peak offset weight) = Found (edgePoint (stepped normal step c offset) weight)
+found normal step c (Peak offset weight) = Found (edgePoint (offsetAlong normal step c offset) weight)
 
 unfoldable pub passed : Settings → Ray → SourcePixel → Option (List Float) → Located
 passed s y c none = NoEdge
 passed s y c (some samples) = found (y .normal) (y .step) c (peak s (y .inverted) (y .«inward_differs») samples)
 
-unfoldable pub pass : Settings → Ray → SourcePixel → Look Located
+unfoldable pub pass : Settings → Ray → SourcePixel → SampleTree Located
 pass s y c = _>>=ₗ_ (profile (y .normal) (y .step) c) (λ samples. done (passed s y c samples))
 
 -- ---- `localize_edge_point`: three passes, and where they tend
 
-unfoldable pub andThen : (EdgePoint → Look Located) → Located → Look Located
+unfoldable pub andThen : (EdgePoint → SampleTree Located) → Located → SampleTree Located
 andThen f NoEdge = done NoEdge
 andThen f (Found p) = f p
 
 -- a pass that finds no edge ends the point
 infixl 20 _>>=_
-unfoldable pub _>>=_ : Look Located → (EdgePoint → Look Located) → Look Located
+unfoldable pub _>>=_ : SampleTree Located → (EdgePoint → SampleTree Located) → SampleTree Located
 m >>= f = _>>=ₗ_ m (andThen f)
 
 -- n more passes, each around the point that the last one found; xs are the projections of the points so far
-unfoldable pub passes : Settings → Ray → ℕ → EdgePoint → List Float → Look Located
+unfoldable pub passes : Settings → Ray → ℕ → EdgePoint → List Float → SampleTree Located
 passes s y zero p xs = done (aitken (y .normal) (y .step) p xs)
 passes s y (suc n) p xs = do
   q ← pass s y (p .pos)
   passes s y n q (xs ++ projection (y .normal) (q .pos) ∷ [])
 
-unfoldable pub localize : Settings → Ray → Look Located
+unfoldable pub localize : Settings → Ray → SampleTree Located
 localize s y = passes s y 3 (edgePoint (y .coarse) f0) []
 
 -- ---- what an answer says: document 01's number, and the values
@@ -91,11 +93,7 @@ pointAnswer NoEdge = record { number = number.profile; point = noPoint }
 
 -- checks 1, 2 and 6
 unfoldable pub viewNumber : List ℕ → ℕ → Scene → ℕ
-viewNumber bytes stride e =
-    let n = photographNumber (e .width) (e .height) stride (length bytes) in
-    if not (eqb n number.answer) then n else
-    if not (goodView (e .view)) then number.lens else
-    number.answer
+viewNumber bytes stride e = first (photographChecks (e .width) (e .height) stride (length bytes) ++ check number.lens (goodView (e .view)) ∷ [])
 
 -- the leaf call: 1, 2, 6, then 19
 unfoldable pub localizeEdgePoint : List ℕ → ℕ → Scene → Ray → PointAnswer
@@ -106,5 +104,5 @@ localizeEdgePoint bytes stride e y =
 
 -- all of the above, for a proof that computes with them: to unfold this is to unfold what its line names
 unfoldable pub opened : Unit {0}
-unfolding stepped gather profile found passed pass andThen _>>=_ passes localize pointAnswer viewNumber localizeEdgePoint
+unfolding offsetAlong sampleProfile profile found passed pass andThen _>>=_ passes localize pointAnswer viewNumber localizeEdgePoint
 opened = tt

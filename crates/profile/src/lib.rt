@@ -2,15 +2,15 @@
 // passes, and where those tend.
 ghost use mathlib.Core.Path.{_≡_};
 ghost use Rattle.sampling.specs.Photographs.{photo};
-ghost use Rattle.look.specs.Run.{state, sampler, Runs};
-ghost use Rattle.profile.specs.Profile.{localize as localized, localizeEdgePoint, noPoint, stepped as steppedTo, viewNumber};
+ghost use Rattle.sample_tree.specs.Run.{state, sampler, Runs};
+ghost use Rattle.profile.specs.Profile.{localize as localized, localizeEdgePoint, noPoint, offsetAlong, viewNumber};
 use consts::Settings;
-use look::Meter;
 use peak::Located;
 use peak::Peaked;
 use pixel::Direction;
 use pixel::EdgePoint;
 use pixel::SourcePixel;
+use sample_tree::Meter;
 use sampling::Sampled;
 use sampling::Scene;
 
@@ -45,8 +45,8 @@ pub struct Ray {
 // ---- the profile
 
 // The place at an offset of so many steps from c.
-fn stepped(normal: Direction, step: f64, c: SourcePixel, offset: f64) -> SourcePixel
-    ensures { λ r. ⌜ r ≡ steppedTo normal step c offset ⌝ }
+fn offset_along(normal: Direction, step: f64, c: SourcePixel, offset: f64) -> SourcePixel
+    ensures { λ r. ⌜ r ≡ offsetAlong normal step c offset ⌝ }
 {
     SourcePixel(
         c.0 + normal.x * offset * step,
@@ -87,8 +87,8 @@ pub fn localize(
         let center = point.pos;
         let mut k: u32 = 0;
         while k < SAMPLES {
-            let p = stepped(normal, step, center, k as f64 - 3.0);
-            let shown = look::sample_source(bytes, stride, scene, sheet, copy, meter, p);
+            let p = offset_along(normal, step, center, k as f64 - 3.0);
+            let shown = sample_tree::sample_source(bytes, stride, scene, sheet, copy, meter, p);
             meter = shown.meter;
             let sampled = shown.sampled;
             let Sampled::Luma(v) = sampled else {
@@ -102,7 +102,7 @@ pub fn localize(
             break 'passes;
         };
         point = EdgePoint {
-            pos: stepped(normal, step, center, offset),
+            pos: offset_along(normal, step, center, offset),
             weight,
         };
         xs[pass] = peak::projection(normal, point.pos);

@@ -6,11 +6,11 @@ use lib.Dec.{eqb}
 use lib.ListN.{take}
 use lib.Ieee.{Float}
 use Rattle.number.specs.Numbers as number
-use Rattle.ieee.proofs.Branches.{either}
+use Rattle.prelude.proofs.Branches.{either}
 use Rattle.pixel.specs.Pixels.{toSource}
 use Rattle.pixel.specs.declared.WorkingPixel.{WorkingPixel}
 use Rattle.pixel.proofs.Values.{Fits, source-fits}
-use Rattle.look.proofs.Always.{always-value}
+use Rattle.sample_tree.proofs.Always.{always-value}
 use Rattle.grid.proofs.Counts.{probeLimit}
 use Rattle.rounds.proofs.Fours.{Four, JustFour, four-of}
 use Rattle.rounds.proofs.Answers.{Sound, refused-sound, rounds-sound}

@@ -11,8 +11,8 @@ use lib.Seq.{take-all}
 use borrow.Author.Tests.{eq-eqb, ne-eqb}
 use Rattle.pixel.specs.declared.SourcePixel.{SourcePixel}
 use Rattle.sampling.specs.Photographs.{photo}
-use Rattle.look.specs.Run.{State, sampler, Runs}
-use Rattle.look.proofs.Meaning.{ran-value}
+use Rattle.sample_tree.specs.Run.{State, sampler, Runs}
+use Rattle.sample_tree.proofs.Meaning.{ran-value}
 use Rattle.edge.specs.declared.Task.{Task}
 use Rattle.corners.specs.declared.Answer.{Answer}
 use Rattle.corners.specs.Corners.{refused}

@@ -8,10 +8,10 @@ use mathlib.Core.List.{List, [], _∷_, map}
 use lib.Ieee.{nan}
 use lib.ListN.{length, getD, drop, drop-of-length-le, length-map}
 use lib.Seq.{drop-cons}
-use Rattle.camera.proofs.Tests.{failed, passed}
+use Rattle.prelude.proofs.Tests.{failed, passed}
 use Rattle.pixel.specs.Pixels.{corner, source}
 use Rattle.pixel.specs.declared.SourcePixel.{SourcePixel}
-use Rattle.refine.specs.Refine.{near, allNear}
+use Rattle.refine.specs.Refine.{withinBounds, allWithinBounds}
 
 -- an array's length, as a field of a struct tells it
 pub length-mapped : {X Y : Type 0} (f : X → Y) (l : List X) (n : ℕ) → length (map f l) ≡ n → length l ≡ n
@@ -27,19 +27,19 @@ four-of f d (x ∷ y ∷ z ∷ w ∷ []) h = refl
 four-of f d (x ∷ y ∷ z ∷ w ∷ v ∷ vs) h = absurd (omega arith)
 
 -- whether those from i on are near, by whether corner i is
-by-turn : (q : List SourcePixel) (i : ℕ) (b : Bool) → i < length q → (near (corner q i .0) && near (corner q i .1)) ≡ b
-    → allNear (drop i q) ≡ (b && allNear (drop (i + 1) q))
-unfolding allNear
+by-turn : (q : List SourcePixel) (i : ℕ) (b : Bool) → i < length q → (withinBounds (corner q i .0) && withinBounds (corner q i .1)) ≡ b
+    → allWithinBounds (drop i q) ≡ (b && allWithinBounds (drop (i + 1) q))
+unfolding allWithinBounds
 by-turn q i b h e = rw (add-one, drop-cons q i (source nan nan), e)
 
-pub one-near : (q : List SourcePixel) (i : ℕ) {b : Bool} → i < length q → b ≡ (near (corner q i .0) && near (corner q i .1)) → not b ≡ false
-    → allNear (drop i q) ≡ allNear (drop (i + 1) q)
+pub one-near : (q : List SourcePixel) (i : ℕ) {b : Bool} → i < length q → b ≡ (withinBounds (corner q i .0) && withinBounds (corner q i .1)) → not b ≡ false
+    → allWithinBounds (drop i q) ≡ allWithinBounds (drop (i + 1) q)
 one-near q i h e n = by-turn q i true h (passed e n)
 
-pub one-far : (q : List SourcePixel) (i : ℕ) {b : Bool} → i < length q → b ≡ (near (corner q i .0) && near (corner q i .1)) → not b ≡ true
-    → allNear (drop i q) ≡ false
+pub one-far : (q : List SourcePixel) (i : ℕ) {b : Bool} → i < length q → b ≡ (withinBounds (corner q i .0) && withinBounds (corner q i .1)) → not b ≡ true
+    → allWithinBounds (drop i q) ≡ false
 one-far q i h e n = by-turn q i false h (failed e n)
 
-pub none-far : (q : List SourcePixel) (i : ℕ) → length q ≤ i → allNear (drop i q) ≡ true
-unfolding allNear
+pub none-far : (q : List SourcePixel) (i : ℕ) → length q ≤ i → allWithinBounds (drop i q) ≡ true
+unfolding allWithinBounds
 none-far q i h = rw (drop-of-length-le q h)

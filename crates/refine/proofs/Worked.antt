@@ -3,16 +3,18 @@
 use Prim.Native.Nat.{ℕ, _*_}
 use mathlib.Core.Bool.{Bool, true, false, _&&_}
 use mathlib.Core.List.{List, [], _∷_, map}
+use mathlib.Core.Option.{some}
 use lib.Dec.{T, eqb}
 use lib.ListN.{length, replicate}
 use lib.Ieee.{Float, binary64, neg, toBits}
+use Rattle.prelude.specs.Prelude.{if_then_else_}
 use Rattle.number.specs.Numbers as number
 use Rattle.ieee.specs.Floats as Floats
 use Rattle.ieee.specs.Parts as Parts
 use Rattle.ieee_root.specs.Root as Root
 use Rattle.sampling.specs.Photographs as Photographs
 use Rattle.sampling.specs.Sampling as Sampling
-use Rattle.look.specs.Look as Look
+use Rattle.sample_tree.specs.SampleTree as SampleTree
 use Rattle.homography.specs.Homography as Homography
 use Rattle.line.specs.Line as Line
 use Rattle.fit.specs.Fit as Fit
@@ -27,7 +29,7 @@ use Rattle.rounds.specs.Rounds as Rounds
 use Rattle.refine.specs.Refine as Refine
 use Rattle.ieee.specs.Floats.{_⊘_, f0, f1, f2, f3, f½, float}
 use Rattle.consts.specs.Consts.{defaults}
-use Rattle.pixel.specs.Pixels.{source, direction}
+use Rattle.pixel.specs.Pixels.{source, direction, edgePoint}
 use Rattle.pixel.specs.Pixels as Pixels
 use Rattle.pixel.specs.declared.SourcePixel.{SourcePixel}
 use Rattle.pixel.specs.declared.WorkingPixel.{WorkingPixel}
@@ -40,12 +42,10 @@ use Rattle.sampling.specs.declared.BorderMode.the-variants.{Reject}
 use Rattle.sampling.specs.declared.LumaAnswer.{LumaAnswer}
 use Rattle.sampling.specs.declared.View.the-variants.{Plain}
 use Rattle.sampling.specs.Sampling.{sampleBilinear}
-use Rattle.peak.specs.declared.Peaked.{Peaked}
-use Rattle.peak.specs.declared.Peaked.the-variants.{Peak, NoPeak}
-use Rattle.peak.specs.declared.Extrapolated.{Extrapolated}
-use Rattle.peak.specs.declared.Extrapolated.the-variants.{Settled, Moved, Lost}
-use Rattle.peak.specs.Peak.{peak}
-use Rattle.peak.specs.Aitken.{extrapolate}
+use Rattle.peak.specs.Aitken.{aitken}
+use Rattle.profile.specs.declared.Ray.{Ray}
+use Rattle.profile.specs.declared.PointAnswer.{PointAnswer}
+use Rattle.profile.specs.Profile.{passed, pointAnswer}
 use Rattle.grid.specs.Grids.{Grid}
 use Rattle.grid.specs.Probes.{probesOf}
 use Rattle.refine.specs.declared.Request.{Request}
@@ -58,7 +58,7 @@ pub data Case : Type 0 where
   projections : (x0 x1 x2 step : Float) → Case
   -- a place in the picture 0 100 / 200 40: its sample
   pixels : (x y : Float) → Case
-  -- a border that is all dark: how many probes
+  -- a border that is all dark: how many probes each edge has
   border : (dim : ℕ) → Case
   -- four corners: where their map sends a place
   corners : List SourcePixel → (u v : Float) → Case
@@ -80,16 +80,14 @@ refuses n = record { number = n; values = [] }
 
 -- the values of an answer alone
 only : ℕ → List Float → List Float
-only n vs = Floats.if_then_else_ (eqb n number.answer) vs []
+only n vs = if eqb n number.answer then vs else []
 
-ofPeak : Peaked → Outcome
-ofPeak (Peak offset weight) = gives (offset ∷ weight ∷ [])
-ofPeak NoPeak = refuses number.profile
+-- from the origin along the x axis, so that a place there is its offset
+rightwards : Bool → Ray
+rightwards inwardDiffers = record { coarse = source f0 f0; normal = direction f1 f0; step = f1; inverted = false; «inward_differs» = inwardDiffers }
 
-ofThree : Float → Extrapolated → Outcome
-ofThree x2 Settled = gives (x2 ∷ [])
-ofThree x2 (Moved along) = gives (Floats._⊕_ x2 along ∷ [])
-ofThree x2 Lost = refuses number.profile
+ofPoint : PointAnswer → List Float → Outcome
+ofPoint a vs = record { number = a .number; values = only (a .number) vs }
 
 ofSample : LumaAnswer → Outcome
 ofSample a = record { number = a .number; values = only (a .number) (a .luma ∷ []) }
@@ -104,10 +102,14 @@ allDark : ℕ → Grid
 allDark dim = record { dim = dim; modules = replicate (dim * dim) 1 }
 
 outcome : Case → Outcome
-outcome (samples vs inwardDiffers) = ofPeak (peak defaults false inwardDiffers (map float vs))
-outcome (projections x0 x1 x2 step) = ofThree x2 (extrapolate step x0 x1 x2)
+outcome (samples vs inwardDiffers) =
+    let a = pointAnswer (passed defaults (rightwards inwardDiffers) (source f0 f0) (some (map float vs))) in
+    ofPoint a (a .point .pos .0 ∷ a .point .weight ∷ [])
+outcome (projections x0 x1 x2 step) =
+    let a = pointAnswer (aitken (direction f1 f0) step (edgePoint (source x2 f0) f1) (x0 ∷ x1 ∷ x2 ∷ [])) in
+    ofPoint a (a .point .pos .0 ∷ [])
 outcome (pixels x y) = ofSample (sampleBilinear (0 ∷ 100 ∷ 200 ∷ 40 ∷ []) 2 2 2 x y Reject)
-outcome (border dim) = gives (float (length (probesOf defaults (allDark dim) 0)) ∷ [])
+outcome (border dim) = gives (map (λ e. float (length (probesOf defaults (allDark dim) e))) (0 ∷ 1 ∷ 2 ∷ 3 ∷ []))
 outcome (corners q u v) = ofMap u v (mapAnswer (squareToQuad q))
 outcome (lines a b) = ofCrossing (crossAnswer (crossing a b))
 
@@ -133,10 +135,10 @@ cases =
     ∷ (pixels f1 f1, gives (float 40 ∷ []))
     ∷ (pixels (quarters 5) f0, refuses 17)
     -- P10
-    ∷ (border 3, gives (f0 ∷ []))
-    ∷ (border 21, gives (float 36 ∷ []))
-    ∷ (border 35, gives (float 64 ∷ []))
-    ∷ (border 36, gives (float 33 ∷ []))
+    ∷ (border 3, gives (replicate 4 f0))
+    ∷ (border 21, gives (replicate 4 (float 36)))
+    ∷ (border 35, gives (replicate 4 (float 64)))
+    ∷ (border 36, gives (replicate 4 (float 33)))
     -- P11
     ∷ (corners (source f0 f0 ∷ source f2 f0 ∷ source f1 f1 ∷ source f0 f1 ∷ []) f1 f1, gives (f1 ∷ f1 ∷ []))
     -- P12
@@ -155,7 +157,7 @@ right [] = true
 right (c ∷ cs) = eqb (outcome (c .0) .number) (c .1 .number) && sameValues (outcome (c .0) .values) (c .1 .values) && right cs
 
 pub worked : T (right cases)
-unfolding right sameValues cases outcome only ofPeak ofThree ofSample ofMap ofCrossing allDark quarters toBits
+unfolding right sameValues cases outcome only rightwards ofPoint ofSample ofMap ofCrossing allDark quarters toBits
     Floats.opened Parts.opened Root.opened Photographs.opened Sampling.opened Homography.opened Line.opened Peaks.opened Aitken.opened Profile.opened Grids.opened Probes.opened
 worked = tt
 
@@ -182,6 +184,6 @@ grey-photograph = record { bytes = replicate 16 128; stride = 4 }
 
 pub grey-is-thin : T (eqb (refine grey (1 ∷ 1 ∷ 1 ∷ 1 ∷ []) grey-photograph .number) 9)
 unfolding grey grey-photograph at
-    Floats.opened Parts.opened Root.opened Pixels.opened Photographs.opened Sampling.opened Look.opened Homography.opened Line.opened Fit.opened
+    Floats.opened Parts.opened Root.opened Pixels.opened Photographs.opened Sampling.opened SampleTree.opened Homography.opened Line.opened Fit.opened
     Peaks.opened Aitken.opened Profile.opened Grids.opened Probes.opened Edge.opened Corners.opened Rounds.opened Refine.opened
 grey-is-thin = tt

@@ -2,20 +2,22 @@
 -- Definitions only.
 use Prim.Native.Nat.{ℕ, _*_}
 use mathlib.Core.Bool.{Bool, true, not, _&&_}
-use mathlib.Core.List.{List, [], _∷_, map}
+use mathlib.Core.List.{List, [], _∷_, _++_, map}
 use lib.Dec.{eqb}
 use lib.ListN.{length, take}
 use lib.Ieee.{Float}
+use Rattle.prelude.specs.Checks.{Check, check, first}
+use Rattle.prelude.specs.Prelude.{if_then_else_}
 use Rattle.number.specs.Numbers as number
 use Rattle.ieee.specs.Parts.{isFinite, magnitude}
-use Rattle.ieee.specs.Floats.{if_then_else_, _≺_, f0, f2^20}
+use Rattle.ieee.specs.Floats.{_≺_, f0, f2^20}
 use Rattle.pixel.specs.Pixels.{toSource}
 use Rattle.pixel.specs.declared.SourcePixel.{SourcePixel}
-use Rattle.sampling.specs.Photographs.{Photo, photo, Pixel, goodSize, goodPhotograph}
+use Rattle.sampling.specs.Photographs.{Photo, photo, Pixel, photographChecks}
 use Rattle.sampling.specs.declared.View.the-variants.{Plain}
 use Rattle.sampling.specs.declared.Scene.{Scene}
 use Rattle.sampling.specs.Sampling.{goodView}
-use Rattle.look.specs.Look.{Look, value, reads}
+use Rattle.sample_tree.specs.SampleTree.{SampleTree, value, reads}
 use Rattle.grid.specs.Grids.{gridOf, goodGrid}
 use Rattle.edge.specs.declared.Plan.{Plan}
 use Rattle.edge.specs.declared.Task.{Task}
@@ -60,32 +62,19 @@ sourceCorners r = map (toSource (r .sx) (r .sy)) (r .corners)
 unfoldable pub goodScale : Float → Bool
 goodScale s = isFinite s && (f0 ≺ s)
 
-unfoldable pub near : Float → Bool
-near x = isFinite x && not (f2^20 ≺ magnitude x)
+unfoldable pub withinBounds : Float → Bool
+withinBounds x = isFinite x && not (f2^20 ≺ magnitude x)
 
-unfoldable pub allNear : List SourcePixel → Bool
-allNear [] = true
-allNear (c ∷ cs) = near (c .0) && near (c .1) && allNear cs
-
-pub record Check : Type 0 where
-  pub number : ℕ
-  pub passes : Bool
-
-abbrev pub check : ℕ → Bool → Check
-check n b = record { number = n; passes = b }
-
--- the number of the first check that fails, and 0 where none does
-abbrev pub first : List Check → ℕ
-first [] = number.answer
-first (c ∷ cs) = if c .passes then first cs else c .number
+unfoldable pub allWithinBounds : List SourcePixel → Bool
+allWithinBounds [] = true
+allWithinBounds (c ∷ cs) = withinBounds (c .0) && withinBounds (c .1) && allWithinBounds cs
 
 abbrev pub entryChecks : Request → List ℕ → Photograph → List Check
 entryChecks r ms p =
-    check number.size (goodSize (r .width) (r .height))
-    ∷ check number.photograph (goodPhotograph (r .width) (r .height) (p .stride) (length (p .bytes)))
-    ∷ check number.grid (goodGrid (gridOf (r .dim) ms))
+    photographChecks (r .width) (r .height) (p .stride) (length (p .bytes))
+    ++ check number.grid (goodGrid (gridOf (r .dim) ms))
     ∷ check number.scale (goodScale (r .sx) && goodScale (r .sy))
-    ∷ check number.corner (allNear (sourceCorners r))
+    ∷ check number.corner (allWithinBounds (sourceCorners r))
     ∷ check number.lens (goodView (r .view))
     ∷ []
 
@@ -107,7 +96,7 @@ abbrev pub shown : Photograph → Photo
 shown p = photo (p .bytes) (p .stride)
 
 -- as it looks at a photograph; the modules are the first dim × dim
-unfoldable pub refinement : Request → List ℕ → Look Answer
+unfoldable pub refinement : Request → List ℕ → SampleTree Answer
 refinement r ms = rounds (planOf r) (take (cells r) ms) (sourceCorners r)
 
 unfoldable pub result : Request → List ℕ → Photograph → Answer
@@ -124,5 +113,5 @@ refine r ms p = if eqb (entry r ms p) number.answer then result r ms p else refu
 
 -- all of the above, for a proof that computes with them: to unfold this is to unfold what its line names
 unfoldable pub opened : Unit {0}
-unfolding sourceCorners goodScale near allNear entry refinement result readsOf refine
+unfolding sourceCorners goodScale withinBounds allWithinBounds entry refinement result readsOf refine
 opened = tt

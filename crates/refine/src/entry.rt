@@ -3,10 +3,10 @@ ghost use mathlib.Core.Path.{_≡_};
 ghost use Prim.Native.Nat.{_*_, min};
 ghost use mathlib.Core.Bool.{_&&_};
 ghost use Rattle.refine.specs.Refine.{
-  allNear,
+  allWithinBounds,
   entry,
   goodScale,
-  near as isNear,
+  withinBounds,
   photograph,
   sourceCorners,
   taskOf,
@@ -18,7 +18,7 @@ use pixel::SourcePixel;
 use sampling::Scene;
 
 // How far from the origin a source corner may lie: 64 times the widest photograph.
-const FARTHEST: f64 = 1048576.0;
+const MAX_COORDINATE: f64 = 1048576.0;
 
 // The corners after the division.
 pub(crate) fn source_corners(request: Request) -> [SourcePixel; 4]
@@ -55,31 +55,31 @@ fn good_scales(sx: f64, sy: f64) -> bool
 }
 
 // Whether a coordinate is finite and not too far out.
-fn near(x: f64) -> bool
-    ensures { λ r. ⌜ r ≡ isNear x ⌝ }
+fn within_bounds(x: f64) -> bool
+    ensures { λ r. ⌜ r ≡ withinBounds x ⌝ }
 {
     if !ieee::is_finite(x) {
         return false;
     }
-    !(ieee::abs(x) > FARTHEST)
+    !(ieee::abs(x) > MAX_COORDINATE)
 }
 
 // Whether both coordinates of a corner are.
-fn corner_near(corner: SourcePixel) -> bool
-    ensures { λ r. ⌜ r ≡ (isNear (corner .0) && isNear (corner .1)) ⌝ }
+fn corner_within_bounds(corner: SourcePixel) -> bool
+    ensures { λ r. ⌜ r ≡ (withinBounds (corner .0) && withinBounds (corner .1)) ⌝ }
 {
-    if !near(corner.0) {
+    if !within_bounds(corner.0) {
         return false;
     }
-    near(corner.1)
+    within_bounds(corner.1)
 }
 
-fn all_near(corners: [SourcePixel; 4]) -> bool
-    ensures { λ r. ⌜ r ≡ allNear corners ⌝ }
+fn all_within_bounds(corners: [SourcePixel; 4]) -> bool
+    ensures { λ r. ⌜ r ≡ allWithinBounds corners ⌝ }
 {
     let mut i: usize = 0;
     while i < 4 {
-        if !corner_near(corners[i]) {
+        if !corner_within_bounds(corners[i]) {
             return false;
         }
         i += 1;
@@ -101,7 +101,7 @@ pub fn entry_number(bytes: &[u8], stride: u32, modules: &[u8], request: Request)
     if !good_scales(request.sx, request.sy) {
         return number::SCALE;
     }
-    if !all_near(source_corners(request)) {
+    if !all_within_bounds(source_corners(request)) {
         return number::CORNER;
     }
     let view = request.view;

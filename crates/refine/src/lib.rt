@@ -1,13 +1,13 @@
 // refine.rs, `refine_corners` and `refine_corners_mapped`: the entry checks, and the rounds behind them.
 ghost use mathlib.Core.Path.{_≡_};
 ghost use Rattle.sampling.specs.Photographs.{photo};
-ghost use Rattle.look.specs.Run.{state, sampler, Runs};
+ghost use Rattle.sample_tree.specs.Run.{state, sampler, Runs};
 ghost use Rattle.refine.specs.Refine.{photograph, plain, refine, refinement, sceneOf};
 use consts::Settings;
 use corners::Answer;
-use look::Meter;
 use pixel::WorkingPixel;
-use rounds::Rounded;
+use rounds::RoundResult;
+use sample_tree::Meter;
 use sampling::View;
 
 mod entry; // entry.rt: the entry checks
@@ -88,7 +88,7 @@ pub fn refine_entered(
     request: Request,
     sheet: &mut [u8],
     copy: &mut [u8],
-) -> Rounded
+) -> RoundResult
     ensures { λ r. ⌜ Runs (sampler (sceneOf request) (photo (now (bytes .entry)) stride))
         (refinement request (now (modules .entry))) (r .answer)
         (state (now (sheet .entry)) (now (copy .entry)) (record { tried = 0 }))

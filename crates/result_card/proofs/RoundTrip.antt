@@ -7,13 +7,13 @@ use native.Mathlib.Omega.{arith}
 use native.Mathlib.Nat.{mod-eq-of-lt}
 use lib.Dec.{eqb}
 use lib.Ieee.{binary64, ofBits}
+use Rattle.prelude.specs.Prelude.{bit}
 use Rattle.pixel.specs.Pixels.{source}
 use Rattle.pixel.specs.declared.SourcePixel.{SourcePixel}
 use Rattle.pixel.proofs.Values.{Fits}
 use Rattle.fit.specs.declared.EdgeStat.{EdgeStat}
 use Rattle.fit.specs.Fit.{stat}
 use Rattle.fit.proofs.Counts.{Counted}
-use Rattle.look.specs.Sheets.{bit}
 use Rattle.corners.specs.declared.RefinedCorners.{RefinedCorners}
 use Rattle.rounds.proofs.Fours.{Four, JustFour, four-of}
 use Rattle.fields.specs.Fields.{numberAt, floatAt, bytesOf, floatBytes, field}

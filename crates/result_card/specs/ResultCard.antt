@@ -6,12 +6,11 @@ use mathlib.Core.Bool.{Bool}
 use mathlib.Core.List.{List, [], _∷_, _++_}
 use lib.Dec.{leb, eqb}
 use lib.ListN.{length, drop}
-use Rattle.ieee.specs.Floats.{if_then_else_}
+use Rattle.prelude.specs.Prelude.{if_then_else_, bit}
 use Rattle.pixel.specs.Pixels.{source}
 use Rattle.pixel.specs.declared.SourcePixel.{SourcePixel}
 use Rattle.fit.specs.declared.EdgeStat.{EdgeStat}
 use Rattle.fit.specs.Fit.{stat}
-use Rattle.look.specs.Sheets.{bit}
 use Rattle.corners.specs.declared.RefinedCorners.{RefinedCorners}
 use Rattle.corners.specs.Corners.{four}
 use Rattle.fields.specs.Fields.{byteAt, floatAt, floatBytes, field}

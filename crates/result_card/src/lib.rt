@@ -6,9 +6,9 @@ ghost use lib.ListN.{length, drop};
 ghost use lib.Seq.{sets};
 ghost use Rattle.fields.specs.Fields.{bytesOf, floatBytes};
 ghost use Rattle.result_card.specs.ResultCard.{cornerBytes, statBytes, flagBytes, resultCard, withCard};
+use corners::RefinedCorners;
 use fit::EdgeStat;
 use pixel::SourcePixel;
-use corners::RefinedCorners;
 
 // The length of a result card: three headers, four corners, four counts of four bytes, four flags.
 pub const RESULT_SIZE: usize = 93;

@@ -6,7 +6,7 @@ use mathlib.Core.Bool.{Bool, not, _&&_}
 use mathlib.Core.List.{List}
 use lib.Dec.{ltb, eqb}
 use Rattle.number.specs.Numbers as number
-use Rattle.ieee.proofs.Branches.{either}
+use Rattle.prelude.proofs.Branches.{either}
 use Rattle.pixel.specs.declared.SourcePixel.{SourcePixel}
 use Rattle.pixel.proofs.Values.{Fits, origin-fits}
 use Rattle.homography.specs.declared.PerspectiveTransform.{PerspectiveTransform}
@@ -17,14 +17,14 @@ use Rattle.line.specs.declared.Crossing.{Crossing}
 use Rattle.line.proofs.Crossings.{CrossingFits, crossed, parallel, crossing-fits}
 use Rattle.fit.specs.declared.EdgeFit.{EdgeFit}
 use Rattle.fit.proofs.Counts.{Counted, none-counted, EdgeCounted, stopped, counted, counted-line}
-use Rattle.look.proofs.Always.{Always, ends, always-bind}
+use Rattle.sample_tree.proofs.Always.{Always, ends, always-bind}
 use Rattle.grid.proofs.Counts.{probeLimit}
 use Rattle.edge.specs.declared.Plan.{Plan}
 use Rattle.edge.proofs.Counts.{edge-counted}
 use Rattle.corners.specs.declared.Answer.{Answer}
 use Rattle.corners.specs.declared.Edges.{Edges}
-use Rattle.corners.specs.Corners.{refused, answered, noEdges, joined, lineIn, statIn, validCount, crossedAt, orElse, refinedCorners, roundEnd}
-use Rattle.rounds.specs.Rounds.{onward, sideOf, edgesFrom, mappedRound, round, isWeak, further, rounds}
+use Rattle.corners.specs.Corners.{refused, answered, noEdges, withEdge, lineIn, statIn, validCount, crossedAt, orElse, refinedCorners, roundEnd}
+use Rattle.rounds.specs.Rounds.{unlessRefused, sideOf, edgesFrom, mappedRound, round, isWeak, remainingRounds, rounds}
 use Rattle.rounds.proofs.Fours.{Four, JustFour, four-of, four-set}
 
 pub record Sound (n : ℕ) (a : Answer) : Type 0 where
@@ -59,8 +59,8 @@ module _ (n : ℕ) where
   abbrev EdgesSound : Edges → Type 0
   EdgesSound es = Four (Counted n) (es .«edge_stats»)
 
-  joined-sound : (e : ℕ) (got : Edges) (f : EdgeFit) → EdgesSound got → EdgeCounted n f → EdgesSound (joined e got f)
-  unfolding joined
+  joined-sound : (e : ℕ) (got : Edges) (f : EdgeFit) → EdgesSound got → EdgeCounted n f → EdgesSound (withEdge e got f)
+  unfolding withEdge
   joined-sound e got _ h stopped = h
   joined-sound e got _ h (counted few) = four-set e h few
   joined-sound e got _ h (counted-line few) = four-set e h few
@@ -88,13 +88,13 @@ module _ (n : ℕ) where
 
   module _ (p : Plan) (ms : List ℕ) (limit : probeLimit (p .settings) ≤ n) where
     edges-sound : (m : PerspectiveTransform) (q : List SourcePixel) (k e : ℕ) (got : Edges) → EdgesSound got → Always EdgesSound (edgesFrom p ms m q k e got)
-    unfolding edgesFrom onward
+    unfolding edgesFrom unlessRefused
     edges-sound m q zero e got h = ends {a = got} h
     edges-sound m q (suc k) e got h =
         always-bind (edge-counted n p ms (sideOf m q e) limit)
         (λ f few.
         let next = joined-sound e got f h few in
-        either (Always EdgesSound) (eqb (joined e got f .number) number.answer) (edges-sound m q k (suc e) (joined e got f) next) (ends {a = joined e got f} next))
+        either (Always EdgesSound) (eqb (withEdge e got f .number) number.answer) (edges-sound m q k (suc e) (withEdge e got f) next) (ends {a = withEdge e got f} next))
 
     -- ---- the rounds
 
@@ -109,8 +109,8 @@ module _ (n : ℕ) where
     unfolding round
     round-sound q h = mapped-sound q (squareToQuad q) h
 
-    further-sound : (k : ℕ) (best : Answer) → Sound n best → Always (Sound n) (further p ms k best)
-    unfolding further
+    further-sound : (k : ℕ) (best : Answer) → Sound n best → Always (Sound n) (remainingRounds p ms k best)
+    unfolding remainingRounds
     further-sound zero best h = ends h
     further-sound (suc k) best h =
         always-bind (round-sound (best .refined .corners) (h .corners))

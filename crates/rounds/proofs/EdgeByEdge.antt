@@ -8,22 +8,22 @@ use mathlib.Core.Bool.{Bool}
 use mathlib.Core.List.{List}
 use lib.Dec.{eqb}
 use borrow.Author.Tests.{eq-eqb, ne-eqb}
-use Rattle.ieee.specs.Floats.{if_then_else_}
+use Rattle.prelude.specs.Prelude.{if_then_else_}
 use Rattle.pixel.specs.declared.SourcePixel.{SourcePixel}
 use Rattle.homography.specs.declared.PerspectiveTransform.{PerspectiveTransform}
-use Rattle.look.specs.Look.{Look, done}
-use Rattle.look.specs.Run.{Sampler, Runs}
-use Rattle.look.proofs.Steps.{Leads, start, then as and-then, called, end}
+use Rattle.sample_tree.specs.SampleTree.{SampleTree, done}
+use Rattle.sample_tree.specs.Run.{Sampler, Runs}
+use Rattle.sample_tree.proofs.Steps.{Leads, start, then as and-then, called, end}
 use Rattle.fit.specs.declared.EdgeFit.{EdgeFit}
 use Rattle.edge.specs.declared.Plan.{Plan}
 use Rattle.edge.specs.declared.Side.{Side}
 use Rattle.edge.specs.Edge.{edge}
 use Rattle.corners.specs.declared.Edges.{Edges}
-use Rattle.corners.specs.Corners.{noEdges, joined}
-use Rattle.rounds.specs.Rounds.{onward, edgesFrom, sideOf}
+use Rattle.corners.specs.Corners.{noEdges, withEdge}
+use Rattle.rounds.specs.Rounds.{unlessRefused, edgesFrom, sideOf}
 
 module _ {S : Type 0} (ask : Sampler S) (plan : Plan) (ms : List ℕ) (m : PerspectiveTransform) (q : List SourcePixel) where
-  abbrev from : ℕ → ℕ → Edges → Look Edges
+  abbrev from : ℕ → ℕ → Edges → SampleTree Edges
   from n i got = edgesFrom plan ms m q n i got
 
   -- what is left after i edges
@@ -36,14 +36,14 @@ module _ {S : Type 0} (ask : Sampler S) (plan : Plan) (ms : List ℕ) (m : Persp
   -- edge i was fitted
   module _ {i : ℕ} (got : Edges) {got′ : Edges} {fit : EdgeFit} {t₀ t t′ : S}
       (few : i < 4) (before : Left t₀ i got t) {side : Side} (is : side ≡ sideOf m q i) (ran : Runs ask (edge plan ms side) fit t t′)
-      (put : got′ ≡ joined i got fit) where
+      (put : got′ ≡ withEdge i got fit) where
     by-number : {b : Bool} → eqb (got′ .number) 0 ≡ b → Leads ask (from 4 0 noEdges) t₀ (if b then from (4 - (i + 1)) (i + 1) got′ else done got′) t′
-    unfolding edgesFrom onward
+    unfolding edgesFrom unlessRefused
     by-number {b} h =
         let one : 4 - i ≡ suc (4 - suc i) = omega arith in
-        let here : Leads ask (from 4 0 noEdges) t₀ (onward (from (4 - suc i) (suc i)) (joined i got fit)) t′
+        let here : Leads ask (from 4 0 noEdges) t₀ (unlessRefused (from (4 - suc i) (suc i)) (withEdge i got fit)) t′
         = and-then ask (subst (λ (k : ℕ). Leads ask (from 4 0 noEdges) t₀ (from k i got) t) one before)
-        (called ask (edge plan ms (sideOf m q i)) (λ f. onward (from (4 - suc i) (suc i)) (joined i got f))
+        (called ask (edge plan ms (sideOf m q i)) (λ f. unlessRefused (from (4 - suc i) (suc i)) (withEdge i got f))
         (subst (λ (z : Side). Runs ask (edge plan ms z) fit t t′) is ran)) in
         rw (sym h, add-one i, put) here
 

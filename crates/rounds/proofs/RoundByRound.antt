@@ -7,21 +7,21 @@ use mathlib.Core.Bool.{Bool, true, false}
 use mathlib.Core.List.{List}
 use lib.Dec.{eqb}
 use borrow.Author.Tests.{eq-eqb, ne-eqb}
+use Rattle.prelude.specs.Prelude.{if_then_else_}
 use Rattle.number.specs.Numbers as number
-use Rattle.ieee.specs.Floats.{if_then_else_}
 use Rattle.pixel.specs.declared.SourcePixel.{SourcePixel}
 use Rattle.homography.specs.declared.PerspectiveTransform.{PerspectiveTransform}
 use Rattle.homography.specs.declared.Mapped.{Mapped}
 use Rattle.homography.specs.declared.Mapped.the-variants.{By, NoMap}
 use Rattle.homography.specs.Homography.{squareToQuad}
-use Rattle.look.specs.Look.{Look, done}
-use Rattle.look.specs.Run.{Sampler, Runs}
-use Rattle.look.proofs.Steps.{Leads, start, then as and-then, called, end, ended}
+use Rattle.sample_tree.specs.SampleTree.{SampleTree, done}
+use Rattle.sample_tree.specs.Run.{Sampler, Runs}
+use Rattle.sample_tree.proofs.Steps.{Leads, start, then as and-then, called, end, ended}
 use Rattle.edge.specs.declared.Plan.{Plan}
 use Rattle.corners.specs.declared.Answer.{Answer}
 use Rattle.corners.specs.declared.Edges.{Edges}
 use Rattle.corners.specs.Corners.{refused, noEdges, roundEnd}
-use Rattle.rounds.specs.Rounds.{edgesFrom, mappedRound, round, isWeak, further, rounds}
+use Rattle.rounds.specs.Rounds.{edgesFrom, mappedRound, round, isWeak, remainingRounds, rounds}
 
 module _ {S : Type 0} (ask : Sampler S) (plan : Plan) (ms : List ℕ) where
   -- ---- a round
@@ -39,12 +39,12 @@ module _ {S : Type 0} (ask : Sampler S) (plan : Plan) (ms : List ℕ) where
   -- ---- the rounds after the first
 
   module _ (first : Answer) where
-    abbrev whole : Look Answer
-    whole = further plan ms (plan .settings .rounds - 1) first
+    abbrev whole : SampleTree Answer
+    whole = remainingRounds plan ms (plan .settings .rounds - 1) first
 
     -- what is left after k rounds
     abbrev pub Left : S → ℕ → Answer → S → Type 0
-    Left t₀ k best t = Leads ask whole t₀ (further plan ms (plan .settings .rounds - k) best) t
+    Left t₀ k best t = Leads ask whole t₀ (remainingRounds plan ms (plan .settings .rounds - k) best) t
 
     pub first-only : (t : S) → Left t 1 first t
     first-only t = start ask whole t
@@ -53,14 +53,14 @@ module _ {S : Type 0} (ask : Sampler S) (plan : Plan) (ms : List ℕ) where
     module _ {k : ℕ} (best : Answer) {next : Answer} {t₀ t t′ : S}
         (few : k < plan .settings .rounds) (before : Left t₀ k best t) (ran : Runs ask (round plan ms (best .refined .corners)) next t t′) where
       by-answer : {weak good : Bool} → isWeak next ≡ weak → eqb (next .number) 0 ≡ good
-          → Leads ask whole t₀ (if weak then done best else if good then further plan ms (plan .settings .rounds - (k + 1)) next else done next) t′
-      unfolding further
+          → Leads ask whole t₀ (if weak then done best else if good then remainingRounds plan ms (plan .settings .rounds - (k + 1)) next else done next) t′
+      unfolding remainingRounds
       by-answer w o =
           let one : plan .settings .rounds - k ≡ suc (plan .settings .rounds - (k + 1)) = omega arith in
           rw (sym w, sym o)
-          (and-then ask (subst (λ (j : ℕ). Leads ask whole t₀ (further plan ms j best) t) one before)
+          (and-then ask (subst (λ (j : ℕ). Leads ask whole t₀ (remainingRounds plan ms j best) t) one before)
           (called ask (round plan ms (best .refined .corners))
-          (λ next. if isWeak next then done best else if eqb (next .number) 0 then further plan ms (plan .settings .rounds - (k + 1)) next else done next) ran))
+          (λ next. if isWeak next then done best else if eqb (next .number) 0 then remainingRounds plan ms (plan .settings .rounds - (k + 1)) next else done next) ran))
 
       pub weak-round : {b : Bool} → b ≡ isWeak next → b ≡ true → Runs ask whole best t₀ t′
       weak-round h w = end ask (by-answer (sym h ∙ w) refl)
@@ -72,24 +72,24 @@ module _ {S : Type 0} (ask : Sampler S) (plan : Plan) (ms : List ℕ) where
       next-round h w o = by-answer (sym h ∙ w) (eq-eqb (next .number) 0 o)
 
     pub all-ran : {k : ℕ} (best : Answer) {t₀ t : S} → plan .settings .rounds ≤ k → Left t₀ k best t → Runs ask whole best t₀ t
-    unfolding further
+    unfolding remainingRounds
     all-ran {k} best {t₀} {t} over before =
         let none : plan .settings .rounds - k ≡ 0 = omega arith in
-        end ask (subst (λ (j : ℕ). Leads ask whole t₀ (further plan ms j best) t) none before)
+        end ask (subst (λ (j : ℕ). Leads ask whole t₀ (remainingRounds plan ms j best) t) none before)
 
   -- ---- all rounds
 
   module _ (q : List SourcePixel) {first : Answer} {t t′ : S} (ran : Runs ask (round plan ms q) first t t′) where
     by-first : {good : Bool} → eqb (first .number) 0 ≡ good
-        → Leads ask (rounds plan ms q) t (if good then further plan ms (plan .settings .rounds - 1) first else done first) t′
+        → Leads ask (rounds plan ms q) t (if good then remainingRounds plan ms (plan .settings .rounds - 1) first else done first) t′
     unfolding rounds
     by-first o =
         rw (sym o)
-        (called ask (round plan ms q) (λ first. if eqb (first .number) 0 then further plan ms (plan .settings .rounds - 1) first else done first) ran)
+        (called ask (round plan ms q) (λ first. if eqb (first .number) 0 then remainingRounds plan ms (plan .settings .rounds - 1) first else done first) ran)
 
     pub first-stops : (first .number ≡ 0 → ⊥) → Runs ask (rounds plan ms q) first t t′
     first-stops o = end ask (by-first (ne-eqb (first .number) 0 o))
 
-    pub rounds-ran : {last : Answer} {t″ : S} → first .number ≡ 0 → Runs ask (further plan ms (plan .settings .rounds - 1) first) last t′ t″
+    pub rounds-ran : {last : Answer} {t″ : S} → first .number ≡ 0 → Runs ask (remainingRounds plan ms (plan .settings .rounds - 1) first) last t′ t″
         → Runs ask (rounds plan ms q) last t t″
     rounds-ran o more = ended ask (by-first (eq-eqb (first .number) 0 o)) more

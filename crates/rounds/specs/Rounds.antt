@@ -4,47 +4,47 @@ use Prim.Native.Nat.{ℕ, zero, suc, _+_, _-_, _%_}
 use mathlib.Core.Bool.{Bool, _||_}
 use mathlib.Core.List.{List}
 use lib.Dec.{eqb}
+use Rattle.prelude.specs.Prelude.{if_then_else_}
 use Rattle.number.specs.Numbers as number
-use Rattle.ieee.specs.Floats.{if_then_else_}
 use Rattle.pixel.specs.Pixels.{corner}
 use Rattle.pixel.specs.declared.SourcePixel.{SourcePixel}
 use Rattle.homography.specs.declared.PerspectiveTransform.{PerspectiveTransform}
 use Rattle.homography.specs.declared.Mapped.{Mapped}
 use Rattle.homography.specs.declared.Mapped.the-variants.{By, NoMap}
 use Rattle.homography.specs.Homography.{squareToQuad}
-use Rattle.look.specs.Look.{Look, done, _>>=_}
+use Rattle.sample_tree.specs.SampleTree.{SampleTree, done, _>>=_}
 use Rattle.edge.specs.declared.Plan.{Plan}
 use Rattle.edge.specs.declared.Side.{Side}
 use Rattle.edge.specs.Edge.{edge}
 use Rattle.corners.specs.declared.Answer.{Answer}
 use Rattle.corners.specs.declared.Edges.{Edges}
-use Rattle.corners.specs.Corners.{refused, noEdges, joined, roundEnd}
+use Rattle.corners.specs.Corners.{refused, noEdges, withEdge, roundEnd}
 
 -- ---- the four edges, in turn; the number of one ends them
 
-unfoldable pub onward : (Edges → Look Edges) → Edges → Look Edges
-onward next got = if eqb (got .number) number.answer then next got else done got
+unfoldable pub unlessRefused : (Edges → SampleTree Edges) → Edges → SampleTree Edges
+unlessRefused next got = if eqb (got .number) number.answer then next got else done got
 
 -- edge e goes from its corner to the next
 abbrev pub sideOf : PerspectiveTransform → List SourcePixel → ℕ → Side
 sideOf m q e = record { map = m; edge = e; from = corner q e; to = corner q ((e + 1) % 4) }
 
 -- n edges from e on, behind those that there are
-unfoldable pub edgesFrom : Plan → List ℕ → PerspectiveTransform → List SourcePixel → ℕ → ℕ → Edges → Look Edges
+unfoldable pub edgesFrom : Plan → List ℕ → PerspectiveTransform → List SourcePixel → ℕ → ℕ → Edges → SampleTree Edges
 edgesFrom p ms m q zero e got = done got
 edgesFrom p ms m q (suc n) e got = do
   f ← edge p ms (sideOf m q e)
-  onward (edgesFrom p ms m q n (suc e)) (joined e got f)
+  unlessRefused (edgesFrom p ms m q n (suc e)) (withEdge e got f)
 
 -- ---- `refine_round`
 
-unfoldable pub mappedRound : Plan → List ℕ → List SourcePixel → Mapped → Look Answer
+unfoldable pub mappedRound : Plan → List ℕ → List SourcePixel → Mapped → SampleTree Answer
 mappedRound p ms q NoMap = done (refused number.quad)
 mappedRound p ms q (By m) = do
   es ← edgesFrom p ms m q 4 0 noEdges
   done (roundEnd q es)
 
-unfoldable pub round : Plan → List ℕ → List SourcePixel → Look Answer
+unfoldable pub round : Plan → List ℕ → List SourcePixel → SampleTree Answer
 round p ms q = mappedRound p ms q (squareToQuad q)
 
 -- ---- the rounds, each from the corners of the last
@@ -54,20 +54,20 @@ unfoldable pub isWeak : Answer → Bool
 isWeak a = eqb (a .number) number.quad || eqb (a .number) number.thin
 
 -- Up to n rounds more. A weak one ends them and leaves the answer that there is; the number of an edge ends the refinement.
-unfoldable pub further : Plan → List ℕ → ℕ → Answer → Look Answer
-further p ms zero best = done best
-further p ms (suc n) best = do
+unfoldable pub remainingRounds : Plan → List ℕ → ℕ → Answer → SampleTree Answer
+remainingRounds p ms zero best = done best
+remainingRounds p ms (suc n) best = do
   next ← round p ms (best .refined .corners)
   if isWeak next then done best else
-      if eqb (next .number) number.answer then further p ms n next else done next
+      if eqb (next .number) number.answer then remainingRounds p ms n next else done next
 
 -- the first round's refusal is the refinement's
-unfoldable pub rounds : Plan → List ℕ → List SourcePixel → Look Answer
+unfoldable pub rounds : Plan → List ℕ → List SourcePixel → SampleTree Answer
 rounds p ms q = do
   first ← round p ms q
-  if eqb (first .number) number.answer then further p ms (p .settings .rounds - 1) first else done first
+  if eqb (first .number) number.answer then remainingRounds p ms (p .settings .rounds - 1) first else done first
 
 -- all of the above, for a proof that computes with them: to unfold this is to unfold what its line names
 unfoldable pub opened : Unit {0}
-unfolding onward edgesFrom mappedRound round isWeak further rounds
+unfolding unlessRefused edgesFrom mappedRound round isWeak remainingRounds rounds
 opened = tt

@@ -2,17 +2,17 @@
 ghost use mathlib.Core.Path.{_≡_};
 ghost use Prim.Native.Nat.{_-_, _<_};
 ghost use Rattle.sampling.specs.Photographs.{photo};
-ghost use Rattle.look.specs.Run.{state, sampler, Runs};
+ghost use Rattle.sample_tree.specs.Run.{state, sampler, Runs};
 ghost use Rattle.corners.specs.Corners.{noEdges};
-ghost use Rattle.rounds.specs.Rounds.{edgesFrom, further, isWeak, round, rounds, sideOf};
+ghost use Rattle.rounds.specs.Rounds.{edgesFrom, remainingRounds, isWeak, round, rounds, sideOf};
 use corners::Answer;
 use corners::Edges;
 use edge::Side;
 use edge::Task;
 use homography::Mapped;
 use homography::PerspectiveTransform;
-use look::Meter;
 use pixel::SourcePixel;
+use sample_tree::Meter;
 
 // The edges of a round, and what sampling carries along.
 pub struct EdgesRun {
@@ -21,7 +21,7 @@ pub struct EdgesRun {
 }
 
 // A round's end, and what sampling carries along.
-pub struct Rounded {
+pub struct RoundResult {
     pub answer: Answer,
     pub meter: Meter,
 }
@@ -84,14 +84,14 @@ fn refine_round(
     copy: &mut [u8],
     meter: Meter,
     q: [SourcePixel; 4],
-) -> Rounded
+) -> RoundResult
     ensures { λ r. ⌜ Runs (sampler (task .scene) (photo (now (bytes .entry)) (task .stride)))
         (round (task .plan) (now (modules .entry)) q) (r .answer)
         (state (now (sheet .entry)) (now (copy .entry)) meter)
         (state (now (sheet .exit)) (now (copy .exit)) (r .meter)) ⌝ }
 {
     match homography::quad_map(q) {
-        Mapped::NoMap => Rounded {
+        Mapped::NoMap => RoundResult {
             answer: corners::refused(number::QUAD),
             meter,
         },
@@ -99,7 +99,7 @@ fn refine_round(
             let run = fit_edges(task, bytes, modules, sheet, copy, meter, map, q);
             let edges = run.edges;
             let meter = run.meter;
-            Rounded {
+            RoundResult {
                 answer: corners::round_end(q, edges),
                 meter,
             }
@@ -126,7 +126,7 @@ fn next_round(
     copy: &mut [u8],
     meter: Meter,
     last: Answer,
-) -> Rounded
+) -> RoundResult
     ensures { λ r. ⌜ Runs (sampler (task .scene) (photo (now (bytes .entry)) (task .stride)))
         (round (task .plan) (now (modules .entry)) (last .refined .corners)) (r .answer)
         (state (now (sheet .entry)) (now (copy .entry)) meter)
@@ -139,7 +139,7 @@ fn next_round(
 
 // The rounds after the first, each from the corners of the last. A weak one ends them and leaves the answer
 // that there is, since that is still measured; the number of an edge ends the refinement.
-fn further_rounds(
+fn remaining_rounds(
     task: Task,
     bytes: &[u8],
     modules: &[u8],
@@ -147,9 +147,9 @@ fn further_rounds(
     copy: &mut [u8],
     meter: Meter,
     first: Answer,
-) -> Rounded
+) -> RoundResult
     ensures { λ r. ⌜ Runs (sampler (task .scene) (photo (now (bytes .entry)) (task .stride)))
-        (further (task .plan) (now (modules .entry)) (task .plan .settings .rounds - 1) first) (r .answer)
+        (remainingRounds (task .plan) (now (modules .entry)) (task .plan .settings .rounds - 1) first) (r .answer)
         (state (now (sheet .entry)) (now (copy .entry)) meter)
         (state (now (sheet .exit)) (now (copy .exit)) (r .meter)) ⌝ }
 {
@@ -161,7 +161,7 @@ fn further_rounds(
         let next = run.answer;
         meter = run.meter;
         if is_weak(next) {
-            return Rounded { answer, meter };
+            return RoundResult { answer, meter };
         }
         if next.number != number::ANSWER {
             return run;
@@ -169,7 +169,7 @@ fn further_rounds(
         answer = next;
         round += 1;
     }
-    Rounded { answer, meter }
+    RoundResult { answer, meter }
 }
 
 // All rounds. The first one's refusal is the refinement's.
@@ -181,7 +181,7 @@ pub fn refine_rounds(
     copy: &mut [u8],
     meter: Meter,
     q: [SourcePixel; 4],
-) -> Rounded
+) -> RoundResult
     ensures { λ r. ⌜ Runs (sampler (task .scene) (photo (now (bytes .entry)) (task .stride)))
         (rounds (task .plan) (now (modules .entry)) q) (r .answer)
         (state (now (sheet .entry)) (now (copy .entry)) meter)
@@ -192,5 +192,5 @@ pub fn refine_rounds(
     if answer.number != number::ANSWER {
         return first;
     }
-    further_rounds(task, bytes, modules, sheet, copy, first.meter, answer)
+    remaining_rounds(task, bytes, modules, sheet, copy, first.meter, answer)
 }

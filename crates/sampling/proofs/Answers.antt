@@ -8,17 +8,17 @@ use borrow.Author.Tests.{eq-eqb, ne-eqb}
 use Rattle.ieee.specs.Floats.{f0}
 use Rattle.sampling.specs.Photographs.{photo, photographNumber}
 use Rattle.sampling.specs.declared.BorderMode.{BorderMode}
-use Rattle.sampling.specs.declared.Spot.{Spot}
+use Rattle.sampling.specs.declared.Footprint.{Footprint}
 use Rattle.sampling.specs.declared.Sampled.{Sampled}
-use Rattle.sampling.specs.Sampling.{spot, shade, lumaAnswer, sampleBilinear}
+use Rattle.sampling.specs.Sampling.{footprint, interpolate, lumaAnswer, sampleBilinear}
 
 module _ (bytes : List ℕ) (w h stride : ℕ) (x y : Float) (b : BorderMode) {n : ℕ} (is : n ≡ photographNumber w h stride (length bytes)) where
   pub refused : (n ≡ 0 → ⊥) → record { number = n; luma = f0 } ≡ sampleBilinear bytes w h stride x y b
   unfolding sampleBilinear
   refused e = rw (is, ne-eqb (photographNumber w h stride (length bytes)) 0 (λ z. e (is ∙ z)), sampleBilinear)
 
-  pub shown : n ≡ 0 → {at : Spot} → at ≡ spot w h b x y → {r z : Sampled} → r ≡ shade (photo bytes stride) at → r ≡ z → lumaAnswer z ≡ sampleBilinear bytes w h stride x y b
+  pub shown : n ≡ 0 → {at : Footprint} → at ≡ footprint w h b x y → {r z : Sampled} → r ≡ interpolate (photo bytes stride) at → r ≡ z → lumaAnswer z ≡ sampleBilinear bytes w h stride x y b
   unfolding sampleBilinear
   shown e {at} hat hr hz =
       rw (eq-eqb (photographNumber w h stride (length bytes)) 0 (sym is ∙ e), sampleBilinear)
-      (ap (λ (q : Sampled). lumaAnswer q) (sym hz ∙ hr ∙ ap (λ (a : Spot). shade (photo bytes stride) a) hat))
+      (ap (λ (q : Sampled). lumaAnswer q) (sym hz ∙ hr ∙ ap (λ (a : Footprint). interpolate (photo bytes stride) a) hat))

@@ -11,25 +11,27 @@ use borrow.Author.Tests.{ltb-false, leb-true, not-false}
 use lib.Ieee.{Float, nan, inf, fin, up, down, lt, ofBits, toUnsigned}
 use lib.Ieee.Exact.{HasValue}
 use lib.Ieee.Fits.{down-pos}
+use Rattle.prelude.proofs.Lists.{Each}
+use Rattle.prelude.proofs.Tests.{both, neither-left, neither-right}
+use Rattle.prelude.specs.Prelude.{if_then_else_}
 use Rattle.ieee.specs.Parts.{isFinite}
 use Rattle.ieee.proofs.Order.{not-itself}
 use Rattle.ieee.proofs.WholeGuess.{float-value, float-finite}
-use Rattle.ieee.specs.Floats.{if_then_else_, _≺_, f0, float, wholePart}
+use Rattle.ieee.specs.Floats.{_≺_, f0, float, wholePart}
 use Rattle.pixel.specs.declared.SourcePixel.{SourcePixel}
-use Rattle.camera.specs.declared.Placed.{Placed}
-use Rattle.camera.specs.declared.Placed.the-variants.{On, Nowhere}
+use Rattle.camera.specs.declared.SourcePoint.{SourcePoint}
+use Rattle.camera.specs.declared.SourcePoint.the-variants.{At, Nowhere}
 use Rattle.camera.specs.Camera.{rectifiedToSource}
-use Rattle.camera.proofs.Tests.{both}
 use Rattle.sampling.specs.Photographs.{sized, goodSize, goodPhotograph}
 use Rattle.sampling.specs.declared.BorderMode.{BorderMode}
 use Rattle.sampling.specs.declared.BorderMode.the-variants.{Reject, Clamp, Constant}
-use Rattle.sampling.specs.declared.Spot.the-variants.{Off, Edging, Among}
-use Rattle.sampling.specs.declared.Spot.{Spot}
+use Rattle.sampling.specs.declared.Footprint.the-variants.{Rejected, Border, Cell}
+use Rattle.sampling.specs.declared.Footprint.{Footprint}
 use Rattle.sampling.specs.declared.View.{View}
 use Rattle.sampling.specs.declared.View.the-variants.{Plain, Calibrated}
 use Rattle.sampling.specs.declared.Scene.{Scene}
-use Rattle.sampling.specs.Sampling.{within, clamped, outside, beyond, spot, touched, Ordered, placedSpot, viewedSpot, sceneSpot}
-use Rattle.sampling.proofs.Pixels.{Each, Inside}
+use Rattle.sampling.specs.Sampling.{interiorCell, clamped, outside, atBorder, footprint, pixelsRead, Ordered, pointFootprint, viewedFootprint, sceneFootprint}
+use Rattle.sampling.proofs.Pixels.{Inside}
 
 -- ---- the whole part of a value that is not above n
 
@@ -68,14 +70,6 @@ clamped-le n x h f = go (x ≺ f0) (float n ≺ x) refl
 
 -- ---- a spot
 
-or-left : (a b : Bool) → (a || b) ≡ false → a ≡ false
-or-left true b h = h
-or-left false b h = refl
-
-or-right : (a b : Bool) → (a || b) ≡ false → b ≡ false
-or-right true b h = absurd (true≢false h)
-or-right false b h = h
-
 -- what check 1 says of a size
 pub record Sized (w h : ℕ) : Type 0 where
   pub wide : 0 < w
@@ -109,63 +103,63 @@ photograph-checked w h stride bytes e =
     record { across = leb-true w stride (u .0); narrow = leb-true stride 65535 (u .1); down = leb-true ((h - 1) * stride + w) bytes (t .1) }
 
 -- a spot's four pixels: the fourth is the last, and lies in the picture
-unfoldable pub Cut : ℕ → ℕ → Spot → Type 0
-Cut w h Off = Unit {0}
-Cut w h (Edging v) = Unit {0}
-Cut w h (Among x0 y0 x1 y1 fx fy) = (x0 ≤ x1) × (y0 ≤ y1) × (x1 ≤ w - 1) × (y1 ≤ h - 1)
+unfoldable pub Cut : ℕ → ℕ → Footprint → Type 0
+Cut w h Rejected = Unit {0}
+Cut w h (Border v) = Unit {0}
+Cut w h (Cell x0 y0 x1 y1 fx fy) = (x0 ≤ x1) × (y0 ≤ y1) × (x1 ≤ w - 1) × (y1 ≤ h - 1)
 
 module _ (w h : ℕ) (wide : w < 2 ^ 32) (high : h < 2 ^ 32) where
-  within-cut : (x y : Float) → wholePart x ≤ w - 1 → wholePart y ≤ h - 1 → Cut w h (within w h x y)
-  unfolding Cut within
+  within-cut : (x y : Float) → wholePart x ≤ w - 1 → wholePart y ≤ h - 1 → Cut w h (interiorCell w h x y)
+  unfolding Cut interiorCell
   within-cut x y bx by = (omega arith, omega arith, omega arith, omega arith)
 
-  beyond-cut : (b : BorderMode) (x y : Float) → isFinite x ≡ true → isFinite y ≡ true → Cut w h (beyond w h b x y)
-  unfolding Cut beyond
+  beyond-cut : (b : BorderMode) (x y : Float) → isFinite x ≡ true → isFinite y ≡ true → Cut w h (atBorder w h b x y)
+  unfolding Cut atBorder
   beyond-cut Reject x y fx fy = tt
   beyond-cut Clamp x y fx fy =
       within-cut (clamped x (float (w - 1))) (clamped y (float (h - 1))) (clamped-le (w - 1) x (omega arith) fx) (clamped-le (h - 1) y (omega arith) fy)
   beyond-cut (Constant v) x y fx fy = tt
 
-  pub spot-cut : (b : BorderMode) (x y : Float) → Cut w h (spot w h b x y)
-  unfolding Cut spot outside
+  pub spot-cut : (b : BorderMode) (x y : Float) → Cut w h (footprint w h b x y)
+  unfolding Cut footprint outside
   spot-cut b x y = go (not (isFinite x) || not (isFinite y)) refl (outside w h x y) refl
     where
       go : (a : Bool) → (not (isFinite x) || not (isFinite y)) ≡ a → (o : Bool) → outside w h x y ≡ o
-          → Cut w h (if a then Off else if o then beyond w h b x y else within w h x y)
+          → Cut w h (if a then Rejected else if o then atBorder w h b x y else interiorCell w h x y)
       go true ea o eo = tt
       go false ea o eo =
-          let fx : isFinite x ≡ true = not-false (isFinite x) (or-left (not (isFinite x)) (not (isFinite y)) ea) in
-          let fy : isFinite y ≡ true = not-false (isFinite y) (or-right (not (isFinite x)) (not (isFinite y)) ea) in
+          let fx : isFinite x ≡ true = not-false (isFinite x) (neither-left (not (isFinite x)) (not (isFinite y)) ea) in
+          let fy : isFinite y ≡ true = not-false (isFinite y) (neither-right (not (isFinite x)) (not (isFinite y)) ea) in
           by-side fx fy o eo
         where
-          by-side : isFinite x ≡ true → isFinite y ≡ true → (o : Bool) → outside w h x y ≡ o → Cut w h (if o then beyond w h b x y else within w h x y)
+          by-side : isFinite x ≡ true → isFinite y ≡ true → (o : Bool) → outside w h x y ≡ o → Cut w h (if o then atBorder w h b x y else interiorCell w h x y)
           by-side fx fy true eo = beyond-cut b x y fx fy
           by-side fx fy false eo =
-              let left = or-left ((x ≺ f0) || (y ≺ f0) || (float (w - 1) ≺ x)) (float (h - 1) ≺ y) eo in
-              within-cut x y (whole-part-le (w - 1) x (omega arith) fx (or-right ((x ≺ f0) || (y ≺ f0)) (float (w - 1) ≺ x) left))
-              (whole-part-le (h - 1) y (omega arith) fy (or-right ((x ≺ f0) || (y ≺ f0) || (float (w - 1) ≺ x)) (float (h - 1) ≺ y) eo))
+              let left = neither-left ((x ≺ f0) || (y ≺ f0) || (float (w - 1) ≺ x)) (float (h - 1) ≺ y) eo in
+              within-cut x y (whole-part-le (w - 1) x (omega arith) fx (neither-right ((x ≺ f0) || (y ≺ f0)) (float (w - 1) ≺ x) left))
+              (whole-part-le (h - 1) y (omega arith) fy (neither-right ((x ≺ f0) || (y ≺ f0) || (float (w - 1) ≺ x)) (float (h - 1) ≺ y) eo))
 
-  placed-cut : (r : Placed) → Cut w h (placedSpot w h r)
-  unfolding placedSpot Cut
-  placed-cut (On q) = spot-cut Reject (q .0) (q .1)
+  placed-cut : (r : SourcePoint) → Cut w h (pointFootprint w h r)
+  unfolding pointFootprint Cut
+  placed-cut (At q) = spot-cut Reject (q .0) (q .1)
   placed-cut Nowhere = tt
 
-  pub viewed-cut : (v : View) (q : SourcePixel) → Cut w h (viewedSpot w h v q)
-  unfolding viewedSpot
+  pub viewed-cut : (v : View) (q : SourcePixel) → Cut w h (viewedFootprint w h v q)
+  unfolding viewedFootprint
   viewed-cut Plain q = spot-cut Reject (q .0) (q .1)
   viewed-cut (Calibrated c) q = placed-cut (rectifiedToSource c q)
 
-pub cut-ordered : (w h : ℕ) (at : Spot) → Cut w h at → Ordered at
+pub cut-ordered : (w h : ℕ) (at : Footprint) → Cut w h at → Ordered at
 unfolding Cut Ordered
-cut-ordered w h Off c = tt
-cut-ordered w h (Edging v) c = tt
-cut-ordered w h (Among x0 y0 x1 y1 fx fy) c = (c .0, c .1)
+cut-ordered w h Rejected c = tt
+cut-ordered w h (Border v) c = tt
+cut-ordered w h (Cell x0 y0 x1 y1 fx fy) c = (c .0, c .1)
 
-pub cut-inside : (w h : ℕ) → Sized w h → (at : Spot) → Cut w h at → Each (Inside w h) (touched at)
-unfolding Cut touched
-cut-inside w h size Off c = tt
-cut-inside w h size (Edging v) c = tt
-cut-inside w h size (Among x0 y0 x1 y1 fx fy) c = (
+pub cut-inside : (w h : ℕ) → Sized w h → (at : Footprint) → Cut w h at → Each (Inside w h) (pixelsRead at)
+unfolding Cut pixelsRead
+cut-inside w h size Rejected c = tt
+cut-inside w h size (Border v) c = tt
+cut-inside w h size (Cell x0 y0 x1 y1 fx fy) c = (
   record { across = omega arith; down = omega arith },
   (
     record { across = omega arith; down = omega arith },
@@ -177,12 +171,12 @@ cut-inside w h size (Among x0 y0 x1 y1 fx fy) c = (
 )
 
 -- of a sample under any border mode, and of one of the refinement
-pub spot-ordered : (w h : ℕ) → w < 2 ^ 32 → h < 2 ^ 32 → (b : BorderMode) (x y : Float) → Ordered (spot w h b x y)
-spot-ordered w h wide high b x y = cut-ordered w h (spot w h b x y) (spot-cut w h wide high b x y)
+pub spot-ordered : (w h : ℕ) → w < 2 ^ 32 → h < 2 ^ 32 → (b : BorderMode) (x y : Float) → Ordered (footprint w h b x y)
+spot-ordered w h wide high b x y = cut-ordered w h (footprint w h b x y) (spot-cut w h wide high b x y)
 
 module _ (e : Scene) where
-  pub scene-ordered : e .width < 2 ^ 32 → e .height < 2 ^ 32 → (q : SourcePixel) → Ordered (sceneSpot e q)
-  scene-ordered wide high q = cut-ordered (e .width) (e .height) (sceneSpot e q) (viewed-cut (e .width) (e .height) wide high (e .view) q)
+  pub scene-ordered : e .width < 2 ^ 32 → e .height < 2 ^ 32 → (q : SourcePixel) → Ordered (sceneFootprint e q)
+  scene-ordered wide high q = cut-ordered (e .width) (e .height) (sceneFootprint e q) (viewed-cut (e .width) (e .height) wide high (e .view) q)
 
-  pub scene-inside : Sized (e .width) (e .height) → (q : SourcePixel) → Each (Inside (e .width) (e .height)) (touched (sceneSpot e q))
-  scene-inside size q = cut-inside (e .width) (e .height) size (sceneSpot e q) (viewed-cut (e .width) (e .height) (omega arith) (omega arith) (e .view) q)
+  pub scene-inside : Sized (e .width) (e .height) → (q : SourcePixel) → Each (Inside (e .width) (e .height)) (pixelsRead (sceneFootprint e q))
+  scene-inside size q = cut-inside (e .width) (e .height) size (sceneFootprint e q) (viewed-cut (e .width) (e .height) (omega arith) (omega arith) (e .view) q)

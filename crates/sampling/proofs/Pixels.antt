@@ -6,20 +6,6 @@ use native.Mathlib.Omega.{arith}
 use mathlib.Core.List.{List, [], _∷_, _++_}
 use Rattle.sampling.specs.Photographs.{Pixel}
 
--- ---- what holds of each
-
-abbrev pub Each : (Pixel → Type 0) → List Pixel → Type 0
-Each P [] = Unit {0}
-Each P (c ∷ cs) = P c × Each P cs
-
-pub each-both : (P : Pixel → Type 0) (s t : List Pixel) → Each P (s ++ t) → Each P s × Each P t
-each-both P [] t h = (tt, h)
-each-both P (c ∷ s) t h = let r = each-both P s t (h .1) in ((h .0, r .0), r .1)
-
-pub each-append : (P : Pixel → Type 0) (s t : List Pixel) → Each P s → Each P t → Each P (s ++ t)
-each-append P [] t hs ht = ht
-each-append P (c ∷ s) t hs ht = (hs .0, each-append P s t (hs .1) ht)
-
 -- ---- a pixel of the picture, and its place
 
 pub record Inside (w h : ℕ) (c : Pixel) : Type 0 where

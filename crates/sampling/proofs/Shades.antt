@@ -10,16 +10,16 @@ use lib.Dec.{ltb}
 use lib.ListN.{length}
 use lib.Ieee.{Float}
 use borrow.Author.Tests.{lt-ltb, le-ltb}
+use Rattle.prelude.proofs.Lists.{Each}
 use Rattle.ieee.specs.Floats.{float}
 use Rattle.sampling.specs.Photographs.{Photo, Pixel}
-use Rattle.sampling.specs.declared.Cell.{Cell}
+use Rattle.sampling.specs.declared.CellBytes.{CellBytes}
 use Rattle.sampling.specs.declared.Sampled.{Sampled}
 use Rattle.sampling.specs.declared.Sampled.the-variants.{Luma, Outside}
-use Rattle.sampling.specs.declared.Spot.{Spot}
-use Rattle.sampling.specs.declared.Spot.the-variants.{Off, Edging, Among}
-use Rattle.sampling.specs.Sampling.{cellOf, touched, blend, shade}
-use Rattle.sampling.specs.Marks.{Buffers, buffers, written, ones, cellMarked, marked, Shows}
-use Rattle.sampling.proofs.Pixels.{Each}
+use Rattle.sampling.specs.declared.Footprint.{Footprint}
+use Rattle.sampling.specs.declared.Footprint.the-variants.{Rejected, Border, Cell}
+use Rattle.sampling.specs.Sampling.{cellOf, pixelsRead, bilinear, interpolate}
+use Rattle.sampling.specs.Marks.{Buffers, buffers, written, ones, cellMarked, marked, ReadsSample}
 
 -- ---- four pixels
 
@@ -29,7 +29,7 @@ cell-places w x0 y0 x1 y1 n hx hy l =
     let rows : y0 * w ≤ y1 * w = mul-le-mul-right w hy in
     (omega arith, omega arith, omega arith)
 
-module _ (w x0 y0 x1 y1 : ℕ) (v : Cell) (s c : List ℕ) {i : ℕ} (last : i ≡ y1 * w + x1) where
+module _ (w x0 y0 x1 y1 : ℕ) (v : CellBytes) (s c : List ℕ) {i : ℕ} (last : i ≡ y1 * w + x1) where
   pub short-sheet : length s ≤ i → buffers s c ≡ cellMarked w x0 y0 x1 y1 v (buffers s c)
   unfolding cellMarked
   short-sheet h = rw (← last, le-ltb i (length s) h, cellMarked)
@@ -45,22 +45,22 @@ module _ (w x0 y0 x1 y1 : ℕ) (v : Cell) (s c : List ℕ) {i : ℕ} (last : i �
 
 -- ---- a sample by its spot
 
-pub shade-among : (p : Photo) {at : Spot} (x0 y0 x1 y1 : ℕ) (fx fy : Float) → at ≡ Among x0 y0 x1 y1 fx fy → {v : Cell} → v ≡ cellOf p x0 y0 x1 y1 → {b : Float}
-    → b ≡ blend (v .v00) (v .v10) (v .v01) (v .v11) fx fy → Luma b ≡ shade p at
-unfolding shade
+pub shade-among : (p : Photo) {at : Footprint} (x0 y0 x1 y1 : ℕ) (fx fy : Float) → at ≡ Cell x0 y0 x1 y1 fx fy → {v : CellBytes} → v ≡ cellOf p x0 y0 x1 y1 → {b : Float}
+    → b ≡ bilinear (v .v00) (v .v10) (v .v01) (v .v11) fx fy → Luma b ≡ interpolate p at
+unfolding interpolate
 shade-among p x0 y0 x1 y1 fx fy e hv hb = rw (e, hb, hv)
 
-module _ (p : Photo) (w : ℕ) (b : Buffers) {at : Spot} where
-  pub shows-off : at ≡ Off → Shows p w at Outside b b
-  unfolding shade marked
+module _ (p : Photo) (w : ℕ) (b : Buffers) {at : Footprint} where
+  pub shows-off : at ≡ Rejected → ReadsSample p w at Outside b b
+  unfolding interpolate marked
   shows-off e = rw e (record { answer = refl; marks = refl })
 
-  pub shows-edging : {v : ℕ} → at ≡ Edging v → Shows p w at (Luma (float v)) b b
-  unfolding shade marked
+  pub shows-edging : {v : ℕ} → at ≡ Border v → ReadsSample p w at (Luma (float v)) b b
+  unfolding interpolate marked
   shows-edging e = rw e (record { answer = refl; marks = refl })
 
-  pub shows-among : (x0 y0 x1 y1 : ℕ) (fx fy : Float) → at ≡ Among x0 y0 x1 y1 fx fy → {v : Cell} → v ≡ cellOf p x0 y0 x1 y1 → {b′ : Buffers} → b′ ≡ cellMarked w x0 y0 x1 y1 v b
-      → {l : Float} → l ≡ blend (v .v00) (v .v10) (v .v01) (v .v11) fx fy → Shows p w at (Luma l) b b′
+  pub shows-among : (x0 y0 x1 y1 : ℕ) (fx fy : Float) → at ≡ Cell x0 y0 x1 y1 fx fy → {v : CellBytes} → v ≡ cellOf p x0 y0 x1 y1 → {b′ : Buffers} → b′ ≡ cellMarked w x0 y0 x1 y1 v b
+      → {l : Float} → l ≡ bilinear (v .v00) (v .v10) (v .v01) (v .v11) fx fy → ReadsSample p w at (Luma l) b b′
   unfolding marked
   shows-among x0 y0 x1 y1 fx fy e {v} hv hb hl = record { answer = shade-among p x0 y0 x1 y1 fx fy e hv hl; marks = rw (e, ← hv) hb }
 
@@ -70,8 +70,8 @@ abbrev pub Same : Photo → Photo → Pixel → Type 0
 Same p q c = q (c .column) (c .row) ≡ p (c .column) (c .row)
 
 -- that agree on what a sample reads show the same there
-pub shade-same : (p q : Photo) (at : Spot) → Each (Same p q) (touched at) → shade q at ≡ shade p at
-unfolding shade touched
-shade-same p q Off h = refl
-shade-same p q (Edging v) h = refl
-shade-same p q (Among x0 y0 x1 y1 fx fy) h = rw (h .0, h .1 .0, h .1 .1 .0, h .1 .1 .1 .0)
+pub shade-same : (p q : Photo) (at : Footprint) → Each (Same p q) (pixelsRead at) → interpolate q at ≡ interpolate p at
+unfolding interpolate pixelsRead
+shade-same p q Rejected h = refl
+shade-same p q (Border v) h = refl
+shade-same p q (Cell x0 y0 x1 y1 fx fy) h = rw (h .0, h .1 .0, h .1 .1 .0, h .1 .1 .1 .0)

@@ -6,23 +6,24 @@ use native.Mathlib.Omega.{arith}
 use mathlib.Core.Bool.{Bool, true, false, not, _&&_, _||_, and-false, true≢false}
 use lib.Ieee.{Float, ofBits}
 use borrow.Author.Tests.{not-true, not-false}
-use Rattle.camera.proofs.Tests.{both}
+use Rattle.prelude.proofs.Tests.{both}
+use Rattle.prelude.specs.Prelude.{if_then_else_}
 use Rattle.ieee.specs.Parts.{isFinite}
-use Rattle.ieee.specs.Floats.{if_then_else_, _≺_, _≼_, f0, float}
+use Rattle.ieee.specs.Floats.{_≺_, _≼_, f0, float}
 use Rattle.ieee.proofs.Order.{not-more, else-more, amid-finite}
 use Rattle.ieee.proofs.WholeGuess.{float-finite}
 use Rattle.pixel.specs.declared.SourcePixel.{SourcePixel}
 use Rattle.camera.specs.declared.CameraCalibration.{CameraCalibration}
-use Rattle.camera.specs.declared.Placed.{Placed}
-use Rattle.camera.specs.declared.Placed.the-variants.{On, Nowhere}
+use Rattle.camera.specs.declared.SourcePoint.{SourcePoint}
+use Rattle.camera.specs.declared.SourcePoint.the-variants.{At, Nowhere}
 use Rattle.camera.specs.Camera.{isIdentity, projected, ifFinite, rectifiedToSource}
 use Rattle.sampling.specs.declared.BorderMode.{BorderMode}
 use Rattle.sampling.specs.declared.BorderMode.the-variants.{Reject, Clamp}
-use Rattle.sampling.specs.declared.Spot.{Spot}
-use Rattle.sampling.specs.declared.Spot.the-variants.{Off}
+use Rattle.sampling.specs.declared.Footprint.{Footprint}
+use Rattle.sampling.specs.declared.Footprint.the-variants.{Rejected}
 use Rattle.sampling.specs.declared.View.{View}
 use Rattle.sampling.specs.declared.View.the-variants.{Plain, Calibrated}
-use Rattle.sampling.specs.Sampling.{clamped, outside, within, beyond, spot, placedSpot, viewedSpot}
+use Rattle.sampling.specs.Sampling.{clamped, outside, interiorCell, atBorder, footprint, pointFootprint, viewedFootprint}
 
 -- ---- beyond the edges
 
@@ -73,14 +74,14 @@ module _ (w h : ℕ) (wide : w < 2 ^ 32) (high : h < 2 ^ 32) (x y : Float) where
   inside-below e {l} hl f g {k} hk = ap (λ (n : ℕ). y ≼ float n) hk ∙ sym (rw (e, sym (ap (λ (n : ℕ). x ≼ float n) hl) ∙ f, g)) ∙ inside-is
 
 module _ (w h : ℕ) (x y : Float) where
-  pub clamped-spot : (b : BorderMode) → b ≡ Clamp → {l : ℕ} → l ≡ w - 1 → {u : Float} → u ≡ clamped x (float l) → {k : ℕ} → k ≡ h - 1 → {v : Float} → v ≡ clamped y (float k) → {s : Spot}
-      → s ≡ within w h u v → s ≡ beyond w h b x y
-  unfolding beyond
+  pub clamped-spot : (b : BorderMode) → b ≡ Clamp → {l : ℕ} → l ≡ w - 1 → {u : Float} → u ≡ clamped x (float l) → {k : ℕ} → k ≡ h - 1 → {v : Float} → v ≡ clamped y (float k) → {s : Footprint}
+      → s ≡ interiorCell w h u v → s ≡ atBorder w h b x y
+  unfolding atBorder
   clamped-spot b hb {l} hl {u} hu {k} hk {v} hv {s} hs =
       hs
-      ∙ ap (λ (a : Float). within w h a v) (hu ∙ ap (λ (n : ℕ). clamped x (float n)) hl)
-      ∙ ap (λ (a : Float). within w h (clamped x (float (w - 1))) a) (hv ∙ ap (λ (n : ℕ). clamped y (float n)) hk)
-      ∙ ap (λ (m : BorderMode). beyond w h m x y) (sym hb)
+      ∙ ap (λ (a : Float). interiorCell w h a v) (hu ∙ ap (λ (n : ℕ). clamped x (float n)) hl)
+      ∙ ap (λ (a : Float). interiorCell w h (clamped x (float (w - 1))) a) (hv ∙ ap (λ (n : ℕ). clamped y (float n)) hk)
+      ∙ ap (λ (m : BorderMode). atBorder w h m x y) (sym hb)
 
 -- ---- the spot
 
@@ -91,32 +92,32 @@ else-outside false b c e f h = absurd (true≢false (sym e))
 else-outside true false c e f h = absurd (true≢false (sym f))
 
 module _ (w h : ℕ) (b : BorderMode) (x y : Float) where
-  pub off-x : isFinite x ≡ false → Off ≡ spot w h b x y
-  unfolding spot
-  off-x e = rw (e, spot)
+  pub off-x : isFinite x ≡ false → Rejected ≡ footprint w h b x y
+  unfolding footprint
+  off-x e = rw (e, footprint)
 
-  pub off-y : isFinite x ≡ true → isFinite y ≡ false → Off ≡ spot w h b x y
-  unfolding spot
-  off-y e f = rw (e, f, spot)
+  pub off-y : isFinite x ≡ true → isFinite y ≡ false → Rejected ≡ footprint w h b x y
+  unfolding footprint
+  off-y e f = rw (e, f, footprint)
 
-  pub off-outside : isFinite x ≡ true → isFinite y ≡ true → (isFinite x && isFinite y && not (outside w h x y)) ≡ false → beyond w h b x y ≡ spot w h b x y
-  unfolding spot
-  off-outside e f o = rw (e, f, else-outside (isFinite x) (isFinite y) (outside w h x y) e f o, spot)
+  pub off-outside : isFinite x ≡ true → isFinite y ≡ true → (isFinite x && isFinite y && not (outside w h x y)) ≡ false → atBorder w h b x y ≡ footprint w h b x y
+  unfolding footprint
+  off-outside e f o = rw (e, f, else-outside (isFinite x) (isFinite y) (outside w h x y) e f o, footprint)
 
-  pub in-within : (isFinite x && isFinite y && not (outside w h x y)) ≡ true → within w h x y ≡ spot w h b x y
-  unfolding spot
+  pub in-within : (isFinite x && isFinite y && not (outside w h x y)) ≡ true → interiorCell w h x y ≡ footprint w h b x y
+  unfolding footprint
   in-within i =
       let t = both (isFinite x && isFinite y) (not (outside w h x y)) i in
       let u = both (isFinite x) (isFinite y) (t .0) in
-      rw (u .0, u .1, not-true (outside w h x y) (t .1), spot)
+      rw (u .0, u .1, not-true (outside w h x y) (t .1), footprint)
 
 -- with the border rejected, what is not inside has none
 module _ (w h : ℕ) (x y : Float) where
-  pub rejected : (isFinite x && isFinite y && not (outside w h x y)) ≡ false → Off ≡ spot w h Reject x y
-  unfolding beyond
+  pub rejected : (isFinite x && isFinite y && not (outside w h x y)) ≡ false → Rejected ≡ footprint w h Reject x y
+  unfolding atBorder
   rejected o = go (isFinite x) refl (isFinite y) refl
     where
-      go : (a : Bool) → isFinite x ≡ a → (b : Bool) → isFinite y ≡ b → Off ≡ spot w h Reject x y
+      go : (a : Bool) → isFinite x ≡ a → (b : Bool) → isFinite y ≡ b → Rejected ≡ footprint w h Reject x y
       go true ea true eb = off-outside w h Reject x y ea eb o
       go true ea false eb = off-y w h Reject x y ea eb
       go false ea b eb = off-x w h Reject x y ea
@@ -124,48 +125,48 @@ module _ (w h : ℕ) (x y : Float) where
 -- ---- the place through a camera
 
 -- a place that is not finite has no spot
-if-finite-spot : (w h : ℕ) (q : SourcePixel) → placedSpot w h (On q) ≡ placedSpot w h (ifFinite q)
-unfolding placedSpot ifFinite
+if-finite-spot : (w h : ℕ) (q : SourcePixel) → pointFootprint w h (At q) ≡ pointFootprint w h (ifFinite q)
+unfolding pointFootprint ifFinite
 if-finite-spot w h q = go (isFinite (q .0)) refl (isFinite (q .1)) refl
   where
-    go : (a : Bool) → isFinite (q .0) ≡ a → (b : Bool) → isFinite (q .1) ≡ b → spot w h Reject (q .0) (q .1) ≡ placedSpot w h (if a && b then On q else Nowhere)
+    go : (a : Bool) → isFinite (q .0) ≡ a → (b : Bool) → isFinite (q .1) ≡ b → footprint w h Reject (q .0) (q .1) ≡ pointFootprint w h (if a && b then At q else Nowhere)
     go true ea true eb = refl
     go true ea false eb = sym (off-y w h Reject (q .0) (q .1) ea eb)
     go false ea b eb = sym (off-x w h Reject (q .0) (q .1) ea)
 
 module _ (c : CameraCalibration) (p : SourcePixel) where
-  pub lost-x : isFinite (p .0) ≡ false → (w h : ℕ) → placedSpot w h Nowhere ≡ placedSpot w h (rectifiedToSource c p)
+  pub lost-x : isFinite (p .0) ≡ false → (w h : ℕ) → pointFootprint w h Nowhere ≡ pointFootprint w h (rectifiedToSource c p)
   unfolding rectifiedToSource
   lost-x e w h = rw (e, rectifiedToSource)
 
-  pub lost-y : isFinite (p .0) ≡ true → isFinite (p .1) ≡ false → (w h : ℕ) → placedSpot w h Nowhere ≡ placedSpot w h (rectifiedToSource c p)
+  pub lost-y : isFinite (p .0) ≡ true → isFinite (p .1) ≡ false → (w h : ℕ) → pointFootprint w h Nowhere ≡ pointFootprint w h (rectifiedToSource c p)
   unfolding rectifiedToSource
   lost-y e f w h = rw (e, f, rectifiedToSource)
 
-  pub same-place : isFinite (p .0) ≡ true → isFinite (p .1) ≡ true → isIdentity c ≡ true → (w h : ℕ) → placedSpot w h (On p) ≡ placedSpot w h (rectifiedToSource c p)
+  pub same-place : isFinite (p .0) ≡ true → isFinite (p .1) ≡ true → isIdentity c ≡ true → (w h : ℕ) → pointFootprint w h (At p) ≡ pointFootprint w h (rectifiedToSource c p)
   unfolding rectifiedToSource
   same-place e f i w h = rw (e, f, i, rectifiedToSource)
 
   pub carried-place : {q : SourcePixel} → isFinite (p .0) ≡ true → isFinite (p .1) ≡ true → isIdentity c ≡ false → q ≡ projected c p
-      → (w h : ℕ) → placedSpot w h (On q) ≡ placedSpot w h (rectifiedToSource c p)
+      → (w h : ℕ) → pointFootprint w h (At q) ≡ pointFootprint w h (rectifiedToSource c p)
   unfolding rectifiedToSource
   carried-place {q} e f i at w h = rw (e, f, i, rectifiedToSource, sym at) (if-finite-spot w h q)
 
 -- ---- the spot in a scene
 
 module _ (v : View) (p : SourcePixel) where
-  pub plain-place : v ≡ Plain → (w h : ℕ) → placedSpot w h (On p) ≡ viewedSpot w h v p
-  unfolding placedSpot viewedSpot
+  pub plain-place : v ≡ Plain → (w h : ℕ) → pointFootprint w h (At p) ≡ viewedFootprint w h v p
+  unfolding pointFootprint viewedFootprint
   plain-place e w h = rw e
 
-  pub camera-place : {c : CameraCalibration} → v ≡ Calibrated c → (r : Placed) → ((w h : ℕ) → placedSpot w h r ≡ placedSpot w h (rectifiedToSource c p)) → (w h : ℕ) → placedSpot w h r ≡ viewedSpot w h v p
-  unfolding viewedSpot
+  pub camera-place : {c : CameraCalibration} → v ≡ Calibrated c → (r : SourcePoint) → ((w h : ℕ) → pointFootprint w h r ≡ pointFootprint w h (rectifiedToSource c p)) → (w h : ℕ) → pointFootprint w h r ≡ viewedFootprint w h v p
+  unfolding viewedFootprint
   camera-place e r hr w h = rw e (hr w h)
 
-  pub placed-on : (w h : ℕ) {r : Placed} → placedSpot w h r ≡ viewedSpot w h v p → {q : SourcePixel} → r ≡ On q → {s : Spot} → s ≡ spot w h Reject (q .0) (q .1) → s ≡ viewedSpot w h v p
-  unfolding placedSpot
-  placed-on w h hr e hs = hs ∙ ap (λ (a : Placed). placedSpot w h a) (sym e) ∙ hr
+  pub placed-on : (w h : ℕ) {r : SourcePoint} → pointFootprint w h r ≡ viewedFootprint w h v p → {q : SourcePixel} → r ≡ At q → {s : Footprint} → s ≡ footprint w h Reject (q .0) (q .1) → s ≡ viewedFootprint w h v p
+  unfolding pointFootprint
+  placed-on w h hr e hs = hs ∙ ap (λ (a : SourcePoint). pointFootprint w h a) (sym e) ∙ hr
 
-  pub placed-nowhere : (w h : ℕ) {r : Placed} → placedSpot w h r ≡ viewedSpot w h v p → r ≡ Nowhere → Off ≡ viewedSpot w h v p
-  unfolding placedSpot
-  placed-nowhere w h hr e = ap (λ (a : Placed). placedSpot w h a) (sym e) ∙ hr
+  pub placed-nowhere : (w h : ℕ) {r : SourcePoint} → pointFootprint w h r ≡ viewedFootprint w h v p → r ≡ Nowhere → Rejected ≡ viewedFootprint w h v p
+  unfolding pointFootprint
+  placed-nowhere w h hr e = ap (λ (a : SourcePoint). pointFootprint w h a) (sym e) ∙ hr

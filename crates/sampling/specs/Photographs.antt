@@ -1,11 +1,11 @@
 -- A photograph: bytes by rows, and which are refused by 1 and 2. Definitions only.
 use Prim.Native.Nat.{ℕ, _+_, _-_, _*_}
-use mathlib.Core.Bool.{Bool, not, _&&_}
-use mathlib.Core.List.{List}
+use mathlib.Core.Bool.{Bool, _&&_}
+use mathlib.Core.List.{List, [], _∷_}
 use lib.Dec.{leb}
 use lib.ListN.{getD}
+use Rattle.prelude.specs.Checks.{Check, check, first}
 use Rattle.number.specs.Numbers as number
-use Rattle.ieee.specs.Floats.{if_then_else_}
 
 -- what a photograph shows at a column and a row
 abbrev pub Photo : Type 0
@@ -34,12 +34,14 @@ goodSize w h = sized w && sized h
 unfoldable pub goodPhotograph : ℕ → ℕ → ℕ → ℕ → Bool
 goodPhotograph w h stride bytes = leb w stride && leb stride 65535 && leb ((h - 1) * stride + w) bytes
 
--- the number of the first check that fails, and 0 where none does
+abbrev pub photographChecks : ℕ → ℕ → ℕ → ℕ → List Check
+photographChecks w h stride bytes =
+    check number.size (goodSize w h)
+    ∷ check number.photograph (goodPhotograph w h stride bytes)
+    ∷ []
+
 unfoldable pub photographNumber : ℕ → ℕ → ℕ → ℕ → ℕ
-photographNumber w h stride bytes =
-    if not (goodSize w h) then number.size else
-    if not (goodPhotograph w h stride bytes) then number.photograph else
-    number.answer
+photographNumber w h stride bytes = first (photographChecks w h stride bytes)
 
 -- all of the above, for a proof that computes with them: to unfold this is to unfold what its line names
 unfoldable pub opened : Unit {0}

@@ -8,18 +8,18 @@ ghost use Rattle.ieee.specs.Floats.{float};
 ghost use Rattle.ieee.specs.Parts.{isFinite};
 ghost use Rattle.camera.specs.Camera.{rectifiedToSource};
 ghost use Rattle.sampling.specs.Photographs.{photo, sized as sizedBy, goodSize, goodPhotograph, photographNumber};
-ghost use Rattle.sampling.specs.Sampling.{clamped, outside, within as amid, beyond as borderSpot, spot as spotOf, cellOf, blend, shade, Ordered, placedSpot, viewedSpot, sceneSpot, goodView, sampleBilinear};
-ghost use Rattle.sampling.specs.Marks.{buffers, written, cellMarked, Shows};
+ghost use Rattle.sampling.specs.Sampling.{clamped, outside, interiorCell, atBorder, footprint as footprintOf, cellOf, bilinear, interpolate, Ordered, pointFootprint, viewedFootprint, sceneFootprint, goodView, sampleBilinear};
+ghost use Rattle.sampling.specs.Marks.{buffers, written, cellMarked, ReadsSample};
 ghost use Rattle.sampling.specs.declared.BorderMode.the-variants.{Reject};
 use camera::CameraCalibration;
-use camera::Placed;
+use camera::SourcePoint;
 use pixel::SourcePixel;
 
 // A width or a height is at most this.
-const LONGEST: u32 = 16384;
+const MAX_SIDE: u32 = 16384;
 
 // A stride is at most this.
-const WIDEST: u32 = 65535;
+const MAX_STRIDE: u32 = 65535;
 
 // Behaviour outside the pixels' centres.
 pub enum BorderMode {
@@ -32,10 +32,10 @@ pub enum BorderMode {
 }
 
 // Where a sample falls: nowhere, on the constant border, or among four pixels.
-pub enum Spot {
-    Off,
-    Edging(u8),
-    Among {
+pub enum Footprint {
+    Rejected,
+    Border(u8),
+    Cell {
         x0: u32,
         y0: u32,
         x1: u32,
@@ -46,7 +46,7 @@ pub enum Spot {
 }
 
 // The bytes of the four pixels that a sample falls among.
-pub struct Cell {
+pub struct CellBytes {
     pub v00: u8,
     pub v10: u8,
     pub v01: u8,
@@ -119,12 +119,12 @@ fn clamp(x: f64, most: f64) -> f64
     if x > most { most } else { x }
 }
 
-fn within(width: u32, height: u32, x: f64, y: f64) -> Spot
-    ensures { λ r. ⌜ r ≡ amid width height x y ⌝ }
+fn interior_cell(width: u32, height: u32, x: f64, y: f64) -> Footprint
+    ensures { λ r. ⌜ r ≡ interiorCell width height x y ⌝ }
 {
     let across = ieee::split_whole(x);
     let down = ieee::split_whole(y);
-    Spot::Among {
+    Footprint::Cell {
         x0: across.whole,
         y0: down.whole,
         x1: next(across.whole, width),
@@ -135,84 +135,84 @@ fn within(width: u32, height: u32, x: f64, y: f64) -> Spot
 }
 
 // Where a sample outside falls.
-fn beyond(width: u32, height: u32, border: BorderMode, x: f64, y: f64) -> Spot
-    ensures { λ r. ⌜ r ≡ borderSpot width height border x y ⌝ }
+fn at_border(width: u32, height: u32, border: BorderMode, x: f64, y: f64) -> Footprint
+    ensures { λ r. ⌜ r ≡ atBorder width height border x y ⌝ }
 {
     match border {
-        BorderMode::Reject => Spot::Off,
-        BorderMode::Clamp => within(
+        BorderMode::Reject => Footprint::Rejected,
+        BorderMode::Clamp => interior_cell(
             width,
             height,
             clamp(x, last(width) as f64),
             clamp(y, last(height) as f64),
         ),
-        BorderMode::Constant(v) => Spot::Edging(v),
+        BorderMode::Constant(v) => Footprint::Border(v),
     }
 }
 
 // Where a sample falls. Nearly all fall inside, so that is asked first; the order of the tests does not show.
-pub fn spot_at(width: u32, height: u32, border: BorderMode, x: f64, y: f64) -> Spot
-    ensures { λ r. ⌜ r ≡ spotOf width height border x y ⌝ }
+pub fn footprint_at(width: u32, height: u32, border: BorderMode, x: f64, y: f64) -> Footprint
+    ensures { λ r. ⌜ r ≡ footprintOf width height border x y ⌝ }
 {
     if is_inside(width, height, x, y) {
-        return within(width, height, x, y);
+        return interior_cell(width, height, x, y);
     }
     if !ieee::is_finite(x) {
-        return Spot::Off;
+        return Footprint::Rejected;
     }
     if !ieee::is_finite(y) {
-        return Spot::Off;
+        return Footprint::Rejected;
     }
-    beyond(width, height, border, x, y)
+    at_border(width, height, border, x, y)
 }
 
 // Where a sample falls with the border rejected.
-fn rejecting_spot(width: u32, height: u32, x: f64, y: f64) -> Spot
-    ensures { λ r. ⌜ r ≡ spotOf width height Reject x y ⌝ }
+fn rejecting_footprint(width: u32, height: u32, x: f64, y: f64) -> Footprint
+    ensures { λ r. ⌜ r ≡ footprintOf width height Reject x y ⌝ }
 {
     if is_inside(width, height, x, y) {
-        return within(width, height, x, y);
+        return interior_cell(width, height, x, y);
     }
-    Spot::Off
+    Footprint::Rejected
 }
 
 // A place seen through a camera. The camera's tests and steps stand here one by one: a call that takes the whole
 // camera at every sample made a refinement a quarter slower. Whether the result is finite its spot tells.
-fn through(camera: CameraCalibration, p: SourcePixel) -> Placed
-    ensures { λ r. ⌜ ((w h : ℕ) → placedSpot w h r ≡ placedSpot w h (rectifiedToSource camera p)) ⌝ }
+fn through_camera(camera: CameraCalibration, p: SourcePixel) -> SourcePoint
+    ensures { λ r. ⌜ ((w h : ℕ) → pointFootprint w h r ≡ pointFootprint w h (rectifiedToSource camera p)) ⌝ }
 {
     if !ieee::is_finite(p.0) {
-        return Placed::Nowhere;
+        return SourcePoint::Nowhere;
     }
     if !ieee::is_finite(p.1) {
-        return Placed::Nowhere;
+        return SourcePoint::Nowhere;
     }
     if camera.is_identity() {
-        return Placed::On(p);
+        return SourcePoint::At(p);
     }
-    Placed::On(camera.project(p))
+    SourcePoint::At(camera.project(p))
 }
 
 // A place in the photograph: through the camera, where there is one.
-fn viewed(view: View, p: SourcePixel) -> Placed
-    ensures { λ r. ⌜ ((w h : ℕ) → placedSpot w h r ≡ viewedSpot w h view p) ⌝ }
+fn through_view(view: View, p: SourcePixel) -> SourcePoint
+    ensures { λ r. ⌜ ((w h : ℕ) → pointFootprint w h r ≡ viewedFootprint w h view p) ⌝ }
 {
     match view {
-        View::Plain => Placed::On(p),
-        View::Calibrated(camera) => through(camera, p),
+        View::Plain => SourcePoint::At(p),
+        View::Calibrated(camera) => through_camera(camera, p),
     }
 }
 
 // Where a sample of the refinement falls: through the camera, where there is one, with the border
 // rejected. One call finds the spot for every view, so that the compiler puts it in.
-fn source_spot(scene: Scene, p: SourcePixel) -> Spot
-    ensures { λ r. ⌜ r ≡ sceneSpot scene p ⌝ }
+fn source_footprint(scene: Scene, p: SourcePixel) -> Footprint
+    ensures { λ r. ⌜ r ≡ sceneFootprint scene p ⌝ }
 {
     let view = scene.view;
-    let placed = viewed(view, p);
+    let placed = through_view(view, p);
     match placed {
-        Placed::On(q) => rejecting_spot(scene.width, scene.height, q.0, q.1),
-        Placed::Nowhere => Spot::Off,
+        SourcePoint::At(q) => rejecting_footprint(scene.width, scene.height, q.0, q.1),
+        SourcePoint::Nowhere => Footprint::Rejected,
     }
 }
 
@@ -240,7 +240,7 @@ fn pixel_at(bytes: &[u8], stride: u32, x: u32, y: u32) -> u8
 }
 
 // The four pixels that a sample falls among, where the photograph reaches the last of them.
-fn read_cell(bytes: &[u8], stride: u32, x0: u32, y0: u32, x1: u32, y1: u32) -> Cell
+fn read_cell(bytes: &[u8], stride: u32, x0: u32, y0: u32, x1: u32, y1: u32) -> CellBytes
     requires { ⌜ (x0 ≤ x1) × (y0 ≤ y1) × (y1 * stride + x1 < length (now bytes)) ⌝ }
     ensures { λ r. ⌜ r ≡ cellOf (photo (now (bytes .entry)) stride) x0 y0 x1 y1 ⌝ }
 {
@@ -248,7 +248,7 @@ fn read_cell(bytes: &[u8], stride: u32, x0: u32, y0: u32, x1: u32, y1: u32) -> C
     let i10 = place(stride, x1, y0);
     let i01 = place(stride, x0, y1);
     let i11 = place(stride, x1, y1);
-    Cell {
+    CellBytes {
         v00: bytes[i00],
         v10: bytes[i10],
         v01: bytes[i01],
@@ -258,14 +258,14 @@ fn read_cell(bytes: &[u8], stride: u32, x0: u32, y0: u32, x1: u32, y1: u32) -> C
 
 // The four pixels that a sample falls among. One test does for all where the photograph is whole, as it is behind
 // entry check 2.
-fn cell_at(bytes: &[u8], stride: u32, x0: u32, y0: u32, x1: u32, y1: u32) -> Cell
+fn cell_at(bytes: &[u8], stride: u32, x0: u32, y0: u32, x1: u32, y1: u32) -> CellBytes
     requires { ⌜ (x0 ≤ x1) × (y0 ≤ y1) ⌝ }
     ensures { λ r. ⌜ r ≡ cellOf (photo (now (bytes .entry)) stride) x0 y0 x1 y1 ⌝ }
 {
     if place(stride, x1, y1) < bytes.len() {
         return read_cell(bytes, stride, x0, y0, x1, y1);
     }
-    Cell {
+    CellBytes {
         v00: pixel_at(bytes, stride, x0, y0),
         v10: pixel_at(bytes, stride, x1, y0),
         v01: pixel_at(bytes, stride, x0, y1),
@@ -274,8 +274,8 @@ fn cell_at(bytes: &[u8], stride: u32, x0: u32, y0: u32, x1: u32, y1: u32) -> Cel
 }
 
 // What they show.
-fn blended(cell: Cell, fx: f64, fy: f64) -> f64
-    ensures { λ r. ⌜ r ≡ blend (cell .v00) (cell .v10) (cell .v01) (cell .v11) fx fy ⌝ }
+fn bilinear_of(cell: CellBytes, fx: f64, fy: f64) -> f64
+    ensures { λ r. ⌜ r ≡ bilinear (cell .v00) (cell .v10) (cell .v01) (cell .v11) fx fy ⌝ }
 {
     let v00 = cell.v00 as f64;
     let v10 = cell.v10 as f64;
@@ -287,7 +287,7 @@ fn blended(cell: Cell, fx: f64, fy: f64) -> f64
 }
 
 // A byte for each of four pixels, into rows of `width` bytes that reach the last of them.
-fn write_cell(buffer: &mut [u8], width: u32, x0: u32, y0: u32, x1: u32, y1: u32, cell: Cell)
+fn write_cell(buffer: &mut [u8], width: u32, x0: u32, y0: u32, x1: u32, y1: u32, cell: CellBytes)
     requires { ⌜ (x0 ≤ x1) × (y0 ≤ y1) × (y1 * width + x1 < length (now buffer)) ⌝ }
     ensures { λ _. ⌜ now (buffer .exit) ≡ written width x0 y0 x1 y1 cell (now (buffer .entry)) ⌝ }
 {
@@ -311,7 +311,7 @@ fn mark_cell(
     y0: u32,
     x1: u32,
     y1: u32,
-    cell: Cell,
+    cell: CellBytes,
 )
     requires { ⌜ (x0 ≤ x1) × (y0 ≤ y1) ⌝ }
     ensures { λ _. ⌜ buffers (now (sheet .exit)) (now (copy .exit))
@@ -327,7 +327,7 @@ fn mark_cell(
     if last >= copy.len() {
         return;
     }
-    let ones = Cell {
+    let ones = CellBytes {
         v00: 1,
         v10: 1,
         v01: 1,
@@ -339,22 +339,22 @@ fn mark_cell(
 
 // What a sample shows that falls at a spot. The pixels that it reads are marked and copied, in rows of
 // `width` bytes.
-fn show(
+fn read_sample(
     bytes: &[u8],
     stride: u32,
     width: u32,
     sheet: &mut [u8],
     copy: &mut [u8],
-    spot: Spot,
+    footprint: Footprint,
 ) -> Sampled
-    requires { ⌜ Ordered spot ⌝ }
-    ensures { λ r. ⌜ Shows (photo (now (bytes .entry)) stride) width spot r
+    requires { ⌜ Ordered footprint ⌝ }
+    ensures { λ r. ⌜ ReadsSample (photo (now (bytes .entry)) stride) width footprint r
         (buffers (now (sheet .entry)) (now (copy .entry))) (buffers (now (sheet .exit)) (now (copy .exit))) ⌝ }
 {
-    match spot {
-        Spot::Off => Sampled::Outside,
-        Spot::Edging(v) => Sampled::Luma(v as f64),
-        Spot::Among {
+    match footprint {
+        Footprint::Rejected => Sampled::Outside,
+        Footprint::Border(v) => Sampled::Luma(v as f64),
+        Footprint::Cell {
             x0,
             y0,
             x1,
@@ -364,20 +364,20 @@ fn show(
         } => {
             let cell = cell_at(bytes, stride, x0, y0, x1, y1);
             mark_cell(sheet, copy, width, x0, y0, x1, y1, cell);
-            Sampled::Luma(blended(cell, fx, fy))
+            Sampled::Luma(bilinear_of(cell, fx, fy))
         }
     }
 }
 
 // The same, and nothing is marked.
-fn shade_at(bytes: &[u8], stride: u32, spot: Spot) -> Sampled
-    requires { ⌜ Ordered spot ⌝ }
-    ensures { λ r. ⌜ r ≡ shade (photo (now (bytes .entry)) stride) spot ⌝ }
+fn interpolate_at(bytes: &[u8], stride: u32, footprint: Footprint) -> Sampled
+    requires { ⌜ Ordered footprint ⌝ }
+    ensures { λ r. ⌜ r ≡ interpolate (photo (now (bytes .entry)) stride) footprint ⌝ }
 {
-    match spot {
-        Spot::Off => Sampled::Outside,
-        Spot::Edging(v) => Sampled::Luma(v as f64),
-        Spot::Among {
+    match footprint {
+        Footprint::Rejected => Sampled::Outside,
+        Footprint::Border(v) => Sampled::Luma(v as f64),
+        Footprint::Cell {
             x0,
             y0,
             x1,
@@ -386,7 +386,7 @@ fn shade_at(bytes: &[u8], stride: u32, spot: Spot) -> Sampled
             fy,
         } => {
             let cell = cell_at(bytes, stride, x0, y0, x1, y1);
-            Sampled::Luma(blended(cell, fx, fy))
+            Sampled::Luma(bilinear_of(cell, fx, fy))
         }
     }
 }
@@ -400,11 +400,11 @@ pub fn sample_at(
     copy: &mut [u8],
     p: SourcePixel,
 ) -> Sampled
-    ensures { λ r. ⌜ Shows (photo (now (bytes .entry)) stride) (scene .width) (sceneSpot scene p) r
+    ensures { λ r. ⌜ ReadsSample (photo (now (bytes .entry)) stride) (scene .width) (sceneFootprint scene p) r
         (buffers (now (sheet .entry)) (now (copy .entry))) (buffers (now (sheet .exit)) (now (copy .exit))) ⌝ }
 {
-    let spot = source_spot(scene, p);
-    show(bytes, stride, scene.width, sheet, copy, spot)
+    let footprint = source_footprint(scene, p);
+    read_sample(bytes, stride, scene.width, sheet, copy, footprint)
 }
 
 // ---- entry checks 1, 2 and 6
@@ -415,7 +415,7 @@ fn sized(n: u32) -> bool
     if n < 1 {
         return false;
     }
-    n <= LONGEST
+    n <= MAX_SIDE
 }
 
 fn good_size(width: u32, height: u32) -> bool
@@ -434,7 +434,7 @@ fn good_photograph(width: u32, height: u32, stride: u32, bytes: usize) -> bool
     if stride < width {
         return false;
     }
-    if stride > WIDEST {
+    if stride > MAX_STRIDE {
         return false;
     }
     place(stride, width, last(height)) <= bytes
@@ -486,8 +486,8 @@ pub fn sample_bilinear(
             luma: 0.0,
         };
     }
-    let spot = spot_at(width, height, border, x, y);
-    let sampled = shade_at(bytes, stride, spot);
+    let footprint = footprint_at(width, height, border, x, y);
+    let sampled = interpolate_at(bytes, stride, footprint);
     match sampled {
         Sampled::Luma(v) => LumaAnswer {
             number: number::ANSWER,

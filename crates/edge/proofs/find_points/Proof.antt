@@ -5,8 +5,8 @@ use native.Mathlib.Omega.{arith}
 use lib.ListN.{length}
 use borrow.Author.Needs.{needs}
 use Rattle.sampling.specs.Photographs.{photo}
-use Rattle.look.specs.Run.{state, sampler}
-use Rattle.look.proofs.Meaning.{sheet-long, copy-long}
+use Rattle.sample_tree.specs.Run.{state, sampler}
+use Rattle.sample_tree.proofs.Meaning.{sheet-long, copy-long}
 use Rattle.fit.specs.Fit.{pointsOf}
 use Rattle.edge.specs.Store.{storedTo}
 use Rattle.edge.proofs.Probing.{Left, none-probed, one-probed, all-probed}
@@ -28,17 +28,17 @@ unfolding pointsOf
 loop-holds c = let a = c .before .before .before .before .before .before .before .before .before .before .before .before .args in
     (omega arith, omega arith, refl, refl, refl, none-probed _ _ _ (a .search .probes .probes) (a .search .probes .count) _)
 
-mul-aim-of : tie.Need-mul-aim-of Inv-loop μ-loop
-mul-aim-of c = search needs
+mul-probe-ray : tie.Need-mul-probe-ray Inv-loop μ-loop
+mul-probe-ray c = search needs
 
-array-copy-out-aim-of : tie.Need-array-copy-out-aim-of Inv-loop μ-loop
-array-copy-out-aim-of c = search needs
+array-copy-out-probe-ray : tie.Need-array-copy-out-probe-ray Inv-loop μ-loop
+array-copy-out-probe-ray c = search needs
 
-aim-of-requires : tie.Need-aim-of-requires Inv-loop μ-loop
-aim-of-requires c κs = search needs
+probe-ray-requires : tie.Need-probe-ray-requires Inv-loop μ-loop
+probe-ray-requires c κs = search needs
 
-probe-edge-requires : tie.Need-probe-edge-requires Inv-loop μ-loop
-probe-edge-requires c κs = search needs
+localize-probe-requires : tie.Need-localize-probe-requires Inv-loop μ-loop
+localize-probe-requires c κs = search needs
 
 put-requires : tie.Need-put-requires Inv-loop μ-loop
 put-requires c κs = let test = c .before .before .before .before .before .before .before .before .before .before .before .before in
@@ -68,7 +68,7 @@ loop-again c = let stored = c .before .before .before .before .before .before .b
       stored .put .kept .1 .0 ∙ at .loop .inv .2,
       stored .put .kept .1 .1 .0 ∙ at .loop .inv .3,
       stored .put .kept .1 .1 .1 .0 ∙ at .loop .inv .4,
-      one-probed _ _ _ _ _ _ _ _ (test .loop-test .taken) (omega (arith, pre .few, pre .whole)) (at .loop .inv .5) (ran .before .before .before .aim-of .ensures) (ran .probe-edge .ensures) (stored .put .ensures .points),
+      one-probed _ _ _ _ _ _ _ _ (test .loop-test .taken) (omega (arith, pre .few, pre .whole)) (at .loop .inv .5) (ran .before .before .before .probe-ray .ensures) (ran .localize-probe .ensures) (stored .put .ensures .points),
     )
 
 returns : tie.Need-returns Inv-loop μ-loop
@@ -97,10 +97,10 @@ find-points-spec =
     Inv-loop
     μ-loop
     loop-holds
-    mul-aim-of
-    array-copy-out-aim-of
-    aim-of-requires
-    probe-edge-requires
+    mul-probe-ray
+    array-copy-out-probe-ray
+    probe-ray-requires
+    localize-probe-requires
     put-requires
     add-i
     loop-less

@@ -1,6 +1,6 @@
 -- `edge::refine_edge` meets its contract: corners that coincide end it unread, else the probes are the definition's and the call runs the rest. Assumes nothing.
 use Rattle.edge.specs.Edge.{edge}
-use Rattle.look.proofs.Steps.{start, end}
+use Rattle.sample_tree.proofs.Steps.{start, end}
 use borrow.Author.Needs.{needs}
 use Rattle.edge.proofs.refine_edge.Statement.{statement}
 use Rattle.edge.proofs.refine_edge.Tie as tie

@@ -21,11 +21,11 @@ abbrev μ-loop : tie.MeasureT-loop
 loop-holds : tie.Need-loop-holds Inv-loop μ-loop
 loop-holds c = (omega arith, bits-start _ _)
 
-shared-slice-read-larger : tie.Need-shared-slice-read-larger Inv-loop μ-loop
-shared-slice-read-larger c = search needs
+shared-slice-read-max-module : tie.Need-shared-slice-read-max-module Inv-loop μ-loop
+shared-slice-read-max-module c = search needs
 
-larger-requires : tie.Need-larger-requires Inv-loop μ-loop
-larger-requires c κs = search needs
+max-module-requires : tie.Need-max-module-requires Inv-loop μ-loop
+max-module-requires c κs = search needs
 
 add-i : tie.Need-add-i Inv-loop μ-loop
 add-i c = search needs
@@ -37,7 +37,7 @@ loop-again : tie.Need-loop-again Inv-loop μ-loop
 loop-again c =
     let at = c .before .before .before in
     let args = at .before .before .args in
-    (omega arith, bits-further (args .n) (at .loop .i) (at .loop .largest) (c .larger .result) (args .modules .now) (omega arith) (omega arith) (c .larger .ensures) (at .loop .inv .1))
+    (omega arith, bits-further (args .n) (at .loop .i) (at .loop .largest) (c .max-module .result) (args .modules .now) (omega arith) (omega arith) (c .max-module .ensures) (at .loop .inv .1))
 
 returns : tie.Need-returns Inv-loop μ-loop
 returns c =
@@ -51,8 +51,8 @@ all-bits-spec =
     Inv-loop
     μ-loop
     loop-holds
-    shared-slice-read-larger
-    larger-requires
+    shared-slice-read-max-module
+    max-module-requires
     add-i
     loop-less
     loop-again

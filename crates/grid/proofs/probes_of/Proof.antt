@@ -1,11 +1,11 @@
--- `grid::probes_of` meets its contract: every k-th candidate, k as `pitch` gives it for their number, is what thinning them leaves. Assumes nothing.
+-- `grid::probes_of` meets its contract: every k-th candidate, k as `decimation` gives it for their number, is what thinning them leaves. Assumes nothing.
 use mathlib.Core.Path.{subst}
 use native.Mathlib.Omega.{arith}
 use borrow.Author.Needs.{needs}
 use Rattle.grid.specs.Grids.{gridOf}
 use Rattle.grid.specs.Probes.{Selected}
-use Rattle.grid.specs.Places.{sideOf}
-use Rattle.grid.specs.declared.Side.{Side}
+use Rattle.grid.specs.Places.{layoutOf}
+use Rattle.grid.specs.declared.EdgeLayout.{EdgeLayout}
 use Rattle.grid.proofs.Sides.{is-side}
 use Rattle.grid.proofs.Thinning.{selected}
 use Rattle.grid.proofs.probes_of.Statement.{statement}
@@ -14,34 +14,34 @@ use Rattle.grid.proofs.probes_of.Tie as tie
 limit-requires : tie.Need-limit-requires
 limit-requires c κs = search needs
 
-side-of-requires : tie.Need-side-of-requires
-side-of-requires c κs = search needs
+layout-of-requires : tie.Need-layout-of-requires
+layout-of-requires c κs = search needs
 
 count-candidates-requires : tie.Need-count-candidates-requires
-count-candidates-requires c κs = is-side _ _ (c .side-of .ensures)
+count-candidates-requires c κs = is-side _ _ (c .layout-of .ensures)
 
-pitch-requires : tie.Need-pitch-requires
-pitch-requires c κs = search needs
+decimation-requires : tie.Need-decimation-requires
+decimation-requires c κs = search needs
 
-pick-requires : tie.Need-pick-requires
-pick-requires c κs = ((c .pitch .ensures .some, omega arith), is-side _ _ (c .before .before .side-of .ensures))
+select-requires : tie.Need-select-requires
+select-requires c κs = ((c .decimation .ensures .some, omega arith), is-side _ _ (c .before .before .layout-of .ensures))
 
 returns : tie.Need-returns
-unfolding sideOf
+unfolding layoutOf
 returns c =
     let at = c .before .before .before in
     let a = at .before .before .before .args in
-    subst (λ (r : Side). Selected (a .settings) (gridOf (r .dim) (a .modules .now)) (r .edge) (c .pick .result))
-    (at .side-of .ensures)
-    (selected _ _ _ _ _ _ (at .before .limit .ensures) (c .before .before .count-candidates .ensures) (c .before .pitch .ensures) (c .pick .ensures))
+    subst (λ (r : EdgeLayout). Selected (a .settings) (gridOf (r .dim) (a .modules .now)) (r .edge) (c .select .result))
+    (at .layout-of .ensures)
+    (selected _ _ _ _ _ _ (at .before .limit .ensures) (c .before .before .count-candidates .ensures) (c .before .decimation .ensures) (c .select .ensures))
 
 pub probes-of-spec : {M : Type 1} → statement M
 probes-of-spec =
     tie.close
     (tie.spec
     limit-requires
-    side-of-requires
+    layout-of-requires
     count-candidates-requires
-    pitch-requires
-    pick-requires
+    decimation-requires
+    select-requires
     returns)

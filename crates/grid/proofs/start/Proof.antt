@@ -7,11 +7,11 @@ use Rattle.grid.specs.Places.{startOf}
 use Rattle.grid.proofs.start.Statement.{statement}
 use Rattle.grid.proofs.start.Tie as tie
 
-less-requires : tie.Need-less-requires
-less-requires c κs = search needs
+saturating-sub-requires : tie.Need-saturating-sub-requires
+saturating-sub-requires c κs = search needs
 
-less-requires-2 : tie.Need-less-requires-2
-less-requires-2 c κs = search needs
+saturating-sub-requires-2 : tie.Need-saturating-sub-requires-2
+saturating-sub-requires-2 c κs = search needs
 
 cast-far : tie.Need-cast-far
 cast-far c = search needs
@@ -20,7 +20,7 @@ mul-result : tie.Need-mul-result
 mul-result c = let a = c .before .before .before .args in omega (arith, row-most (a .depth) (a .dim) (omega arith) (omega arith))
 
 mul-result-2 : tie.Need-mul-result-2
-mul-result-2 c = omega (arith, row-most (c .before .less2 .result) (c .before .before .before .args .dim) (omega arith) (omega arith))
+mul-result-2 c = omega (arith, row-most (c .before .saturating-sub2 .result) (c .before .before .before .args .dim) (omega arith) (omega arith))
 
 returns : tie.Need-returns
 unfolding startOf
@@ -28,11 +28,11 @@ returns c = rw (c .match .keys1)
 
 returns-2 : tie.Need-returns-2
 unfolding startOf
-returns-2 c = rw (c .match .keys2, ← c .before .before .less .ensures) (c .before .less2 .ensures)
+returns-2 c = rw (c .match .keys2, ← c .before .before .saturating-sub .ensures) (c .before .saturating-sub2 .ensures)
 
 returns-3 : tie.Need-returns-3
 unfolding startOf
-returns-3 c = rw (c .match .keys3, ← c .before .before .less .ensures, ← c .before .less2 .ensures)
+returns-3 c = rw (c .match .keys3, ← c .before .before .saturating-sub .ensures, ← c .before .saturating-sub2 .ensures)
 
 returns-4 : tie.Need-returns-4
 unfolding startOf
@@ -43,8 +43,8 @@ pub start-spec : {M : Type 1} → statement M
 start-spec =
     tie.close
     (tie.spec
-    less-requires
-    less-requires-2
+    saturating-sub-requires
+    saturating-sub-requires-2
     cast-far
     mul-result
     mul-result-2

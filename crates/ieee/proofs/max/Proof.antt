@@ -1,4 +1,4 @@
--- `ieee::max` meets its contract: each way through its tests is a case of `larger`. Assumes nothing.
+-- `ieee::max` meets its contract: each way through its tests is a case of `maximum`. Assumes nothing.
 use Rattle.ieee.proofs.Larger.{first-nan, second-nan, second-above, second-not-above}
 use Rattle.ieee.proofs.max.Statement.{statement}
 use Rattle.ieee.proofs.max.Tie as tie

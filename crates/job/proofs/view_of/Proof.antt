@@ -6,13 +6,13 @@ use Rattle.job.specs.Job.{viewOf}
 use Rattle.job.proofs.view_of.Statement.{statement}
 use Rattle.job.proofs.view_of.Tie as tie
 
-is-whole-requires : tie.Need-is-whole-requires
-is-whole-requires c κs = search needs
+has-exactly-requires : tie.Need-has-exactly-requires
+has-exactly-requires c κs = search needs
 
 returns : tie.Need-returns
 unfolding viewOf
 returns c =
-    let six = sym (c .before .is-whole .ensures) ∙ not-true _ (c .if1 .taken) in
+    let six = sym (c .before .has-exactly .ensures) ∙ not-true _ (c .if1 .taken) in
     rw six
 
 part-requires : tie.Need-part-requires
@@ -34,7 +34,7 @@ returns-2 : tie.Need-returns-2
 unfolding viewOf
 returns-2 c =
     let at-if = c .before .before .before .before .before in
-    let eight = sym (at-if .before .is-whole .ensures) ∙ not-false _ (at-if .if1 .left) in
+    let eight = sym (at-if .before .has-exactly .ensures) ∙ not-false _ (at-if .if1 .left) in
     let pair = c .before .before .before .before .part .ensures in
     let lens = c .before .before .before .part2 .ensures in
     rw (eight, ← pair, ← lens, c .before .before .intrinsics-at .ensures, c .before .intrinsics-at2 .ensures, c .lens-of .ensures)
@@ -43,7 +43,7 @@ pub view-of-spec : {M : Type 1} → statement M
 view-of-spec =
     tie.close
     (tie.spec
-    is-whole-requires
+    has-exactly-requires
     returns
     part-requires
     part-requires-2

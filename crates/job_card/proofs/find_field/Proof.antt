@@ -31,8 +31,8 @@ part-result-end-2 c = search needs
 returns-2 : tie.Need-returns-2
 returns-2 c = not-found _ _ (rw (lt-leb _ 8 (c .before .if2 .taken), and-false))
 
-is-good-requires : tie.Need-is-good-requires
-is-good-requires c κs = search needs
+well-formed-requires : tie.Need-well-formed-requires
+well-formed-requires c κs = search needs
 
 sub-result-3 : tie.Need-sub-result-3
 sub-result-3 c = search needs
@@ -45,7 +45,7 @@ part-result-end-3 c = search needs
 
 returns-3 : tie.Need-returns-3
 returns-3 c =
-    let bad = sym (c .before .before .is-good .ensures) ∙ not-true (c .before .before .is-good .result) (c .before .if3 .taken) in
+    let bad = sym (c .before .before .well-formed .ensures) ∙ not-true (c .before .before .well-formed .result) (c .before .if3 .taken) in
     not-found _ _ (rw (bad, and-false))
 
 part-of-requires : tie.Need-part-of-requires
@@ -54,7 +54,7 @@ part-of-requires c κs = search needs
 returns-4 : tie.Need-returns-4
 returns-4 c =
     found _ _ _ (c .before .before .before .before .if1 .left) (c .before .before .before .if2 .left)
-    (sym (c .before .before .is-good .ensures) ∙ not-false _ (c .before .if3 .left)) (c .part-of .ensures)
+    (sym (c .before .before .well-formed .ensures) ∙ not-false _ (c .before .if3 .left)) (c .part-of .ensures)
 
 pub find-field-spec : {M : Type 1} → statement M
 find-field-spec =
@@ -68,7 +68,7 @@ find-field-spec =
     part-result-start-2
     part-result-end-2
     returns-2
-    is-good-requires
+    well-formed-requires
     sub-result-3
     part-result-start-3
     part-result-end-3

@@ -1,6 +1,6 @@
 -- `line::direction_of` meets its contract: it computes a, b and h, and the two answers are those of the definition's test. Assumes nothing.
 use mathlib.Core.Path.{sym}
-use Rattle.line.specs.Line.{spread}
+use Rattle.line.specs.Line.{principalDirection}
 use borrow.Author.Needs.{needs}
 use Rattle.line.proofs.direction_of.Statement.{statement}
 use Rattle.line.proofs.direction_of.Tie as tie
@@ -9,15 +9,15 @@ sqrt-requires : tie.Need-sqrt-requires
 sqrt-requires c κs = search needs
 
 returns : tie.Need-returns
-unfolding spread
+unfolding principalDirection
 returns c = simp (sym (c .before .sqrt .ensures), c .if1 .taken)
 
-lean-requires : tie.Need-lean-requires
-lean-requires c κs = search needs
+half-angle-direction-requires : tie.Need-half-angle-direction-requires
+half-angle-direction-requires c κs = search needs
 
 returns-2 : tie.Need-returns-2
-unfolding spread
-returns-2 c = simp (sym (c .before .before .sqrt .ensures), c .before .if1 .left, c .lean .ensures)
+unfolding principalDirection
+returns-2 c = simp (sym (c .before .before .sqrt .ensures), c .before .if1 .left, c .half-angle-direction .ensures)
 
 pub direction-of-spec : {M : Type 1} → statement M
-direction-of-spec = tie.close (tie.spec sqrt-requires returns lean-requires returns-2)
+direction-of-spec = tie.close (tie.spec sqrt-requires returns half-angle-direction-requires returns-2)

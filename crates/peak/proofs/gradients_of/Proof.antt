@@ -1,6 +1,6 @@
 -- `gradients_of` meets its contract: the definition's own operations in the same order. Assumes nothing.
 use mathlib.Core.Path.{refl}
-use Rattle.peak.specs.Peak.{gradient, five}
+use Rattle.peak.specs.Peak.{gradient, innerGradients}
 use borrow.Author.Needs.{needs}
 use Rattle.peak.proofs.gradients_of.Statement.{statement}
 use Rattle.peak.proofs.gradients_of.Tie as tie
@@ -36,7 +36,7 @@ array-read-t36 : tie.Need-array-read-t36
 array-read-t36 c = search needs
 
 returns : tie.Need-returns
-unfolding gradient five
+unfolding gradient innerGradients
 returns c = refl
 
 pub gradients-of-spec : {M : Type 1} → statement M

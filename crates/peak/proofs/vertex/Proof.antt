@@ -1,5 +1,5 @@
 -- `vertex` meets its contract: the tests of the code are those of the definition, in the same order. Assumes nothing.
-use Rattle.camera.proofs.Tests.{failed, passed}
+use Rattle.prelude.proofs.Tests.{failed, passed}
 use Rattle.peak.proofs.Peaks.{flat, endless, far, near, under, over}
 use borrow.Author.Needs.{needs}
 use Rattle.peak.proofs.vertex.Statement.{statement}

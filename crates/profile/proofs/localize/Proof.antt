@@ -8,8 +8,8 @@ use native.Mathlib.Omega.{arith}
 use borrow.Author.Needs.{needs}
 use lib.ListN.{length, length-set}
 use Rattle.sampling.specs.Photographs.{photo}
-use Rattle.look.specs.Run.{state, sampler, Runs}
-use Rattle.look.proofs.Meaning.{sheet-long, copy-long}
+use Rattle.sample_tree.specs.Run.{state, sampler, Runs}
+use Rattle.sample_tree.proofs.Meaning.{sheet-long, copy-long}
 use Rattle.peak.specs.declared.Located.{Located}
 use Rattle.peak.specs.declared.Located.the-variants.{NoEdge}
 use Rattle.peak.specs.Aitken.{aitken}
@@ -42,11 +42,11 @@ passes-holds c = (omega arith, search needs, search needs, none-yet _ _ _ _ _ []
 loop-holds : tie.Need-loop-holds Inv-loop μ-loop Inv-passes μ-passes
 loop-holds c = (omega arith, c .before .before .passes .inv .1, begun _ _ _ _ _ [])
 
-int-to-float-stepped : tie.Need-int-to-float-stepped Inv-loop μ-loop Inv-passes μ-passes
-int-to-float-stepped c = search needs
+int-to-float-offset-along : tie.Need-int-to-float-offset-along Inv-loop μ-loop Inv-passes μ-passes
+int-to-float-offset-along c = search needs
 
-stepped-requires : tie.Need-stepped-requires Inv-loop μ-loop Inv-passes μ-passes
-stepped-requires c κs = search needs
+offset-along-requires : tie.Need-offset-along-requires Inv-loop μ-loop Inv-passes μ-passes
+offset-along-requires c κs = search needs
 
 sample-source-requires : tie.Need-sample-source-requires Inv-loop μ-loop Inv-passes μ-passes
 sample-source-requires c κs = search needs
@@ -73,7 +73,7 @@ loop-again : tie.Need-loop-again Inv-loop μ-loop Inv-passes μ-passes
 loop-again c = let inv = c .before .before .before .before .before .before .before .before .before .before .before .before .before .before .loop .inv in (
   omega arith,
   simp length-set (inv .1),
-  went-on _ _ _ _ _ (omega arith) (inv .1) (c .before .sampled .given .1) (inv .2) (c .before .before .before .before .before .before .before .before .before .before .before .stepped .ensures) (c .before .before .before .before .before .before .before .before .sample-source .ensures),
+  went-on _ _ _ _ _ (omega arith) (inv .1) (c .before .sampled .given .1) (inv .2) (c .before .before .before .before .before .before .before .before .before .before .before .offset-along .ensures) (c .before .before .before .before .before .before .before .before .sample-source .ensures),
 )
 
 find-peak-requires : tie.Need-find-peak-requires Inv-loop μ-loop Inv-passes μ-passes
@@ -85,8 +85,8 @@ enum-known-peak c = search needs
 enum-told-2 : tie.Need-enum-told-2 Inv-loop μ-loop Inv-passes μ-passes
 enum-told-2 c = search needs
 
-stepped-requires-2 : tie.Need-stepped-requires-2 Inv-loop μ-loop Inv-passes μ-passes
-stepped-requires-2 c κs = search needs
+offset-along-requires-2 : tie.Need-offset-along-requires-2 Inv-loop μ-loop Inv-passes μ-passes
+offset-along-requires-2 c κs = search needs
 
 projection-requires : tie.Need-projection-requires Inv-loop μ-loop Inv-passes μ-passes
 projection-requires c κs = search needs
@@ -110,7 +110,7 @@ passes-again c = let i = c .before .before .before .before .before .before .befo
       i .1,
       simp length-set (inv .2),
       pass-done _ _ _ _ _ _ (omega arith) (inv .2) (inv .3) (ended _ _ _ _ (i .0) (omega arith) (i .1) (i .2))
-          (c .before .before .before .before .before .find-peak .ensures) (c .before .before .before .peak .given .1) (c .before .stepped2 .ensures) (c .projection .ensures),
+          (c .before .before .before .before .before .find-peak .ensures) (c .before .before .before .peak .given .1) (c .before .offset-along2 .ensures) (c .projection .ensures),
     )
 
 -- ---- where the ways out of the passes meet
@@ -175,8 +175,8 @@ localize-spec =
     μ-passes
     passes-holds
     loop-holds
-    int-to-float-stepped
-    stepped-requires
+    int-to-float-offset-along
+    offset-along-requires
     sample-source-requires
     enum-known-sampled
     enum-told
@@ -188,7 +188,7 @@ localize-spec =
     find-peak-requires
     enum-known-peak
     enum-told-2
-    stepped-requires-2
+    offset-along-requires-2
     projection-requires
     mul-xs
     array-write-xs

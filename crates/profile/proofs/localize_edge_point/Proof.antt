@@ -1,7 +1,7 @@
 -- `localize_edge_point` meets its contract: the number of the view, and then a case for each end of `localize`. Assumes nothing.
 use Rattle.profile.proofs.Answers.{refused, ended}
 use Rattle.profile.specs.Profile.{pointAnswer}
-use Rattle.look.proofs.Meaning.{ran-value}
+use Rattle.sample_tree.proofs.Meaning.{ran-value}
 use mathlib.Core.Path.{_∙_}
 use borrow.Author.Needs.{needs}
 use Rattle.profile.proofs.localize_edge_point.Statement.{statement}

@@ -1,5 +1,5 @@
 -- `view_number` meets its contract: the tests of the code are those of the definition, in the same order. Assumes nothing.
-use Rattle.camera.proofs.Tests.{failed, passed}
+use Rattle.prelude.proofs.Tests.{failed, passed}
 use Rattle.profile.proofs.Answers.{photograph-refused, camera-refused, none-refused}
 use borrow.Author.Needs.{needs}
 use Rattle.profile.proofs.view_number.Statement.{statement}

@@ -3,8 +3,8 @@ use Prim.Native.Nat.{_≤_, _-_}
 use native.Mathlib.Omega.{arith}
 use borrow.Author.Needs.{needs}
 use Rattle.sampling.specs.Photographs.{photo}
-use Rattle.look.specs.Run.{state, sampler}
-use Rattle.look.proofs.Meaning.{sheet-long, copy-long}
+use Rattle.sample_tree.specs.Run.{state, sampler}
+use Rattle.sample_tree.proofs.Meaning.{sheet-long, copy-long}
 use Rattle.rounds.proofs.EdgeByEdge.{Left, none-yet, next-edge, edge-stops, all-fitted}
 use Rattle.rounds.proofs.fit_edges.Statement.{statement}
 use Rattle.rounds.proofs.fit_edges.Tie as tie

@@ -16,8 +16,8 @@ same-length-2 c = search needs
 returns : tie.Need-returns
 returns c = first-stops _ _ _ _ (c .before .before .before .before .before .before .before .refine-round .ensures) (c .if1 .taken)
 
-further-rounds-requires : tie.Need-further-rounds-requires
-further-rounds-requires c κs = search needs
+remaining-rounds-requires : tie.Need-remaining-rounds-requires
+remaining-rounds-requires c κs = search needs
 
 same-length-3 : tie.Need-same-length-3
 same-length-3 c = search needs
@@ -26,7 +26,7 @@ same-length-4 : tie.Need-same-length-4
 same-length-4 c = search needs
 
 returns-2 : tie.Need-returns-2
-returns-2 c = rounds-ran _ _ _ _ (c .before .before .before .before .before .before .before .before .before .before .before .before .before .before .refine-round .ensures) (c .before .before .before .before .before .before .before .if1 .left) (c .before .before .before .before .further-rounds .ensures)
+returns-2 c = rounds-ran _ _ _ _ (c .before .before .before .before .before .before .before .before .before .before .before .before .before .before .refine-round .ensures) (c .before .before .before .before .before .before .before .if1 .left) (c .before .before .before .before .remaining-rounds .ensures)
 
 pub refine-rounds-spec : {M : Type 1} → statement M
 refine-rounds-spec =
@@ -36,7 +36,7 @@ refine-rounds-spec =
     same-length
     same-length-2
     returns
-    further-rounds-requires
+    remaining-rounds-requires
     same-length-3
     same-length-4
     returns-2)

@@ -1,5 +1,5 @@
 -- `photograph_number` meets its contract: the tests of the code are those of the definition, in the same order. Assumes nothing.
-use Rattle.camera.proofs.Tests.{failed, passed}
+use Rattle.prelude.proofs.Tests.{failed, passed}
 use Rattle.sampling.specs.Photographs.{photographNumber}
 use borrow.Author.Needs.{needs}
 use Rattle.sampling.proofs.photograph_number.Statement.{statement}

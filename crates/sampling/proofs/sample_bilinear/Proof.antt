@@ -1,7 +1,7 @@
--- `sample_bilinear` meets its contract: the photograph's number, and then a case for each answer of `shade_at`. Assumes nothing.
+-- `sample_bilinear` meets its contract: the photograph's number, and then a case for each answer of `interpolate_at`. Assumes nothing.
 use Rattle.sampling.proofs.Answers.{refused, shown}
 use Rattle.sampling.proofs.Inside.{spot-ordered}
-use Rattle.sampling.specs.declared.Spot.{Spot}
+use Rattle.sampling.specs.declared.Footprint.{Footprint}
 use native.Mathlib.Omega.{arith}
 use mathlib.Core.Path.{sym, subst}
 use Rattle.sampling.specs.Sampling.{Ordered, lumaAnswer}
@@ -15,11 +15,11 @@ photograph-number-requires c κs = search needs
 returns : tie.Need-returns
 returns c = refused _ _ _ _ _ _ _ (c .before .photograph-number .ensures) (c .if1 .taken)
 
-spot-at-requires : tie.Need-spot-at-requires
-spot-at-requires c κs = search needs
+footprint-at-requires : tie.Need-footprint-at-requires
+footprint-at-requires c κs = search needs
 
-shade-at-requires : tie.Need-shade-at-requires
-shade-at-requires c κs = subst (λ (z : Spot). Ordered z) (sym (c .spot-at .ensures)) (spot-ordered _ _ (omega arith) (omega arith) _ _ _)
+interpolate-at-requires : tie.Need-interpolate-at-requires
+interpolate-at-requires c κs = subst (λ (z : Footprint). Ordered z) (sym (c .footprint-at .ensures)) (spot-ordered _ _ (omega arith) (omega arith) _ _ _)
 
 enum-known-sampled : tie.Need-enum-known-sampled
 enum-known-sampled c = search needs
@@ -29,11 +29,11 @@ enum-told c = search needs
 
 returns-2 : tie.Need-returns-2
 unfolding lumaAnswer
-returns-2 c = shown _ _ _ _ _ _ _ (c .before .before .before .before .before .before .photograph-number .ensures) (c .before .before .before .before .before .if1 .left) (c .before .before .before .before .spot-at .ensures) (c .before .before .before .shade-at .ensures) (c .before .sampled .given .1)
+returns-2 c = shown _ _ _ _ _ _ _ (c .before .before .before .before .before .before .photograph-number .ensures) (c .before .before .before .before .before .if1 .left) (c .before .before .before .before .footprint-at .ensures) (c .before .before .before .interpolate-at .ensures) (c .before .sampled .given .1)
 
 returns-3 : tie.Need-returns-3
 unfolding lumaAnswer
-returns-3 c = shown _ _ _ _ _ _ _ (c .before .before .before .before .before .photograph-number .ensures) (c .before .before .before .before .if1 .left) (c .before .before .before .spot-at .ensures) (c .before .before .shade-at .ensures) (c .enum-told .given .1)
+returns-3 c = shown _ _ _ _ _ _ _ (c .before .before .before .before .before .photograph-number .ensures) (c .before .before .before .before .if1 .left) (c .before .before .before .footprint-at .ensures) (c .before .before .interpolate-at .ensures) (c .enum-told .given .1)
 
 pub sample-bilinear-spec : {M : Type 1} → statement M
 sample-bilinear-spec =
@@ -41,8 +41,8 @@ sample-bilinear-spec =
     (tie.spec
     photograph-number-requires
     returns
-    spot-at-requires
-    shade-at-requires
+    footprint-at-requires
+    interpolate-at-requires
     enum-known-sampled
     enum-told
     returns-2

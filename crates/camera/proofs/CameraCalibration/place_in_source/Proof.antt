@@ -1,7 +1,7 @@
 -- `CameraCalibration::place_in_source` meets its contract: its tests are the definition's, in the same order. Assumes nothing.
 use mathlib.Core.Path.{sym, _∙_, ap}
+use Rattle.prelude.proofs.Tests.{failed, passed}
 use Rattle.pixel.specs.declared.SourcePixel.{SourcePixel}
-use Rattle.camera.proofs.Tests.{failed, passed}
 use Rattle.camera.specs.Camera.{ifFinite}
 use Rattle.camera.proofs.Places.{placed-nowhere, placed-same, placed-through}
 use borrow.Author.Needs.{needs}

@@ -1,6 +1,6 @@
 -- `CameraCalibration::rectified_to_source` meets its contract: the camera's test, and then a case for each answer of `place_in_source`. Assumes nothing.
 use mathlib.Core.Path.{sym, _∙_}
-use Rattle.camera.proofs.Tests.{failed, passed}
+use Rattle.prelude.proofs.Tests.{failed, passed}
 use Rattle.camera.specs.Camera.{placeAnswer, cameraAnswer}
 use borrow.Author.Needs.{needs}
 use Rattle.camera.proofs.CameraCalibration.rectified_to_source.Statement.{statement}

@@ -1,5 +1,5 @@
 -- `CameraCalibration::valid` meets its contract: its tests are the conditions of the definition. Assumes nothing.
-use Rattle.camera.proofs.Tests.{failed, passed}
+use Rattle.prelude.proofs.Tests.{failed, passed}
 use Rattle.camera.specs.Camera.{validCamera}
 use borrow.Author.Needs.{needs}
 use Rattle.camera.proofs.CameraCalibration.valid.Statement.{statement}

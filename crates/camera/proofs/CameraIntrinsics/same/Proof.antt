@@ -1,5 +1,5 @@
 -- `CameraIntrinsics::same` meets its contract: its tests are the conditions of the definition. Assumes nothing.
-use Rattle.camera.proofs.Tests.{differ, agree}
+use Rattle.prelude.proofs.Tests.{differ, agree}
 use Rattle.camera.specs.Camera.{sameIntrinsics}
 use Rattle.camera.proofs.CameraIntrinsics.same.Statement.{statement}
 use Rattle.camera.proofs.CameraIntrinsics.same.Tie as tie

@@ -1,5 +1,5 @@
 -- `CameraIntrinsics::valid` meets its contract: its tests are the conditions of the definition, the first four two at a time. Assumes nothing.
-use Rattle.camera.proofs.Tests.{failed, passed, and-pair}
+use Rattle.prelude.proofs.Tests.{failed, passed, and-pair}
 use Rattle.camera.specs.Camera.{validIntrinsics}
 use borrow.Author.Needs.{needs}
 use Rattle.camera.proofs.CameraIntrinsics.valid.Statement.{statement}

@@ -1,5 +1,5 @@
 -- `LensDistortion::valid` meets its contract: the cases are the definition's, and so are the tests, two at a time. Assumes nothing.
-use Rattle.camera.proofs.Tests.{failed, passed, and-pair}
+use Rattle.prelude.proofs.Tests.{failed, passed, and-pair}
 use Rattle.camera.specs.Camera.{validLens}
 use borrow.Author.Needs.{needs}
 use Rattle.camera.proofs.LensDistortion.valid.Statement.{statement}

@@ -6,8 +6,8 @@ use Rattle.cards.specs.Run.{jobAnswer}
 use Rattle.cards.proofs.run.run_job.Statement.{statement}
 use Rattle.cards.proofs.run.run_job.Tie as tie
 
-is-good-requires : tie.Need-is-good-requires
-is-good-requires c κs = search needs
+well-formed-requires : tie.Need-well-formed-requires
+well-formed-requires c κs = search needs
 
 refused-requires : tie.Need-refused-requires
 refused-requires c κs = search needs
@@ -15,7 +15,7 @@ refused-requires c κs = search needs
 returns : tie.Need-returns
 unfolding jobAnswer
 returns c =
-    let bad = sym (c .before .before .is-good .ensures) ∙ not-true _ (c .before .if1 .taken) in
+    let bad = sym (c .before .before .well-formed .ensures) ∙ not-true _ (c .before .if1 .taken) in
     rw bad (c .refused .ensures)
 
 part-requires : tie.Need-part-requires
@@ -37,14 +37,14 @@ returns-2 : tie.Need-returns-2
 unfolding jobAnswer
 returns-2 c =
     let lies = c .before .before .before .before in
-    let good = sym (lies .before .before .is-good .ensures) ∙ not-false _ (lies .before .if1 .left) in
+    let good = sym (lies .before .before .well-formed .ensures) ∙ not-false _ (lies .before .if1 .left) in
     rw (good, ← c .before .request-of .ensures, ← c .before .before .modules-of .ensures, ← lies .part .ensures, ← c .before .before .before .stride-of .ensures) (c .refine-corners-mapped .ensures)
 
 pub run-job-spec : {M : Type 1} → statement M
 run-job-spec =
     tie.close
     (tie.spec
-    is-good-requires
+    well-formed-requires
     refused-requires
     returns
     part-requires

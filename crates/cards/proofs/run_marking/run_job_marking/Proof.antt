@@ -6,15 +6,15 @@ use Rattle.cards.proofs.Marked.{malformed-marks, asked-marks}
 use Rattle.cards.proofs.run_marking.run_job_marking.Statement.{statement}
 use Rattle.cards.proofs.run_marking.run_job_marking.Tie as tie
 
-is-good-requires : tie.Need-is-good-requires
-is-good-requires c κs = search needs
+well-formed-requires : tie.Need-well-formed-requires
+well-formed-requires c κs = search needs
 
 refused-requires : tie.Need-refused-requires
 refused-requires c κs = search needs
 
 returns : tie.Need-returns
 returns c =
-    let bad = sym (c .before .before .is-good .ensures) ∙ not-true _ (c .before .if1 .taken) in
+    let bad = sym (c .before .before .well-formed .ensures) ∙ not-true _ (c .before .if1 .taken) in
     malformed-marks _ _ _ _ bad (c .refused .ensures)
 
 part-requires : tie.Need-part-requires
@@ -43,14 +43,14 @@ returns-2 c =
     let ran = c .before .before .before .before in
     let asked = ran .before .before .before in
     let lies = asked .before .before .before in
-    let good = sym (lies .before .before .is-good .ensures) ∙ not-false _ (lies .before .if1 .left) in
+    let good = sym (lies .before .before .well-formed .ensures) ∙ not-false _ (lies .before .if1 .left) in
     asked-marks _ _ _ _ _ _ _ _ _ _ good (asked .request-of .ensures) (asked .before .modules-of .ensures) (lies .part .ensures) (asked .before .before .stride-of .ensures) (ran .refine-corners-mapped-marking .ensures)
 
 pub run-job-marking-spec : {M : Type 1} → statement M
 run-job-marking-spec =
     tie.close
     (tie.spec
-    is-good-requires
+    well-formed-requires
     refused-requires
     returns
     part-requires

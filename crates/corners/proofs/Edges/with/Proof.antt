@@ -1,6 +1,6 @@
 -- `Edges::with` meets its contract: each case of an edge's end is the definition's. Assumes nothing.
 use borrow.Author.Needs.{needs}
-use Rattle.corners.specs.Corners.{joined}
+use Rattle.corners.specs.Corners.{withEdge}
 use Rattle.corners.proofs.Edges.with.Statement.{statement}
 use Rattle.corners.proofs.Edges.with.Tie as tie
 
@@ -23,15 +23,15 @@ put-stat-requires-2 : tie.Need-put-stat-requires-2
 put-stat-requires-2 c κs = search needs
 
 returns : tie.Need-returns
-unfolding joined
+unfolding withEdge
 returns c = rw (c .before .fit .given .1)
 
 returns-2 : tie.Need-returns-2
-unfolding joined
+unfolding withEdge
 returns-2 c = rw (c .before .before .fit2 .given .1, c .put-stat .ensures)
 
 returns-3 : tie.Need-returns-3
-unfolding joined
+unfolding withEdge
 returns-3 c = rw (c .before .before .before .fit3 .given .1, c .before .put-line .ensures, c .put-stat2 .ensures)
 
 pub with-spec : {M : Type 1} → statement M

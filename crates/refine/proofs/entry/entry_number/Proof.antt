@@ -1,7 +1,7 @@
 -- `entry_number` meets its contract: each return is at the first check that fails, since those before it passed. Assumes nothing.
 use mathlib.Core.Path.{sym}
 use borrow.Author.Needs.{needs}
-use Rattle.camera.proofs.Tests.{failed, passed}
+use Rattle.prelude.proofs.Tests.{failed, passed}
 use Rattle.refine.specs.Refine.{entry}
 use Rattle.refine.proofs.Checks.{bad-photograph, good-photograph}
 use Rattle.refine.proofs.entry.entry_number.Statement.{statement}
@@ -37,8 +37,8 @@ returns-3 c =
 source-corners-requires : tie.Need-source-corners-requires
 source-corners-requires c κs = search needs
 
-all-near-requires : tie.Need-all-near-requires
-all-near-requires c κs = search needs
+all-within-bounds-requires : tie.Need-all-within-bounds-requires
+all-within-bounds-requires c κs = search needs
 
 returns-4 : tie.Need-returns-4
 unfolding entry
@@ -47,7 +47,7 @@ returns-4 c =
     let grid = scales .before .before in
     let framed = grid .before .before in
     let good = good-photograph _ _ _ _ (framed .before .photograph-number .ensures) (framed .if1 .left) in
-    simp (good .0, good .1, passed (grid .before .good-grid .ensures) (grid .if2 .left), passed (scales .before .good-scales .ensures) (scales .if3 .left), sym (c .before .before .source-corners .ensures), failed (c .before .all-near .ensures) (c .if4 .taken))
+    simp (good .0, good .1, passed (grid .before .good-grid .ensures) (grid .if2 .left), passed (scales .before .good-scales .ensures) (scales .if3 .left), sym (c .before .before .source-corners .ensures), failed (c .before .all-within-bounds .ensures) (c .if4 .taken))
 
 valid-requires : tie.Need-valid-requires
 valid-requires c κs = search needs
@@ -60,7 +60,7 @@ returns-5 c =
     let grid = scales .before .before in
     let framed = grid .before .before in
     let good = good-photograph _ _ _ _ (framed .before .photograph-number .ensures) (framed .if1 .left) in
-    simp (good .0, good .1, passed (grid .before .good-grid .ensures) (grid .if2 .left), passed (scales .before .good-scales .ensures) (scales .if3 .left), sym (corners .before .before .source-corners .ensures), passed (corners .before .all-near .ensures) (corners .if4 .left), failed (c .before .valid .ensures) (c .if5 .taken))
+    simp (good .0, good .1, passed (grid .before .good-grid .ensures) (grid .if2 .left), passed (scales .before .good-scales .ensures) (scales .if3 .left), sym (corners .before .before .source-corners .ensures), passed (corners .before .all-within-bounds .ensures) (corners .if4 .left), failed (c .before .valid .ensures) (c .if5 .taken))
 
 returns-6 : tie.Need-returns-6
 unfolding entry
@@ -70,7 +70,7 @@ returns-6 c =
     let grid = scales .before .before in
     let framed = grid .before .before in
     let good = good-photograph _ _ _ _ (framed .before .photograph-number .ensures) (framed .if1 .left) in
-    simp (good .0, good .1, passed (grid .before .good-grid .ensures) (grid .if2 .left), passed (scales .before .good-scales .ensures) (scales .if3 .left), sym (corners .before .before .source-corners .ensures), passed (corners .before .all-near .ensures) (corners .if4 .left), passed (c .before .valid .ensures) (c .if5 .left))
+    simp (good .0, good .1, passed (grid .before .good-grid .ensures) (grid .if2 .left), passed (scales .before .good-scales .ensures) (scales .if3 .left), sym (corners .before .before .source-corners .ensures), passed (corners .before .all-within-bounds .ensures) (corners .if4 .left), passed (c .before .valid .ensures) (c .if5 .left))
 
 pub entry-number-spec : {M : Type 1} → statement M
 entry-number-spec =
@@ -83,7 +83,7 @@ entry-number-spec =
     good-scales-requires
     returns-3
     source-corners-requires
-    all-near-requires
+    all-within-bounds-requires
     returns-4
     valid-requires
     returns-5

@@ -1,6 +1,6 @@
 -- `good_scale` meets its contract: the definition's two tests, in its order. Assumes nothing.
 use borrow.Author.Needs.{needs}
-use Rattle.camera.proofs.Tests.{failed, passed}
+use Rattle.prelude.proofs.Tests.{failed, passed}
 use Rattle.refine.specs.Refine.{goodScale}
 use Rattle.refine.proofs.entry.good_scale.Statement.{statement}
 use Rattle.refine.proofs.entry.good_scale.Tie as tie

@@ -1,6 +1,6 @@
 -- `good_scales` meets its contract: the first scale decides, or else the second does. Assumes nothing.
 use borrow.Author.Needs.{needs}
-use Rattle.camera.proofs.Tests.{failed, passed}
+use Rattle.prelude.proofs.Tests.{failed, passed}
 use Rattle.refine.proofs.entry.good_scales.Statement.{statement}
 use Rattle.refine.proofs.entry.good_scales.Tie as tie
 

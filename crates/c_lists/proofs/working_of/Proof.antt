@@ -1,0 +1,48 @@
+-- `working_of` meets its contract: each number is what `float_at` reads. Assumes nothing.
+use Rattle.c_lists.specs.Lent.{workingOf}
+use borrow.Author.Needs.{needs}
+use Rattle.c_lists.proofs.working_of.Statement.{statement}
+use Rattle.c_lists.proofs.working_of.Tie as tie
+
+float-at-requires : tie.Need-float-at-requires
+float-at-requires c κs = search needs
+
+float-at-requires-2 : tie.Need-float-at-requires-2
+float-at-requires-2 c κs = search needs
+
+float-at-requires-3 : tie.Need-float-at-requires-3
+float-at-requires-3 c κs = search needs
+
+float-at-requires-4 : tie.Need-float-at-requires-4
+float-at-requires-4 c κs = search needs
+
+float-at-requires-5 : tie.Need-float-at-requires-5
+float-at-requires-5 c κs = search needs
+
+float-at-requires-6 : tie.Need-float-at-requires-6
+float-at-requires-6 c κs = search needs
+
+float-at-requires-7 : tie.Need-float-at-requires-7
+float-at-requires-7 c κs = search needs
+
+float-at-requires-8 : tie.Need-float-at-requires-8
+float-at-requires-8 c κs = search needs
+
+returns : tie.Need-returns
+unfolding workingOf
+returns c =
+    simp (c .float-at8 .ensures, c .before .float-at7 .ensures, c .before .before .float-at6 .ensures, c .before .before .before .float-at5 .ensures, c .before .before .before .before .float-at4 .ensures, c .before .before .before .before .before .float-at3 .ensures, c .before .before .before .before .before .before .float-at2 .ensures, c .before .before .before .before .before .before .before .float-at .ensures)
+
+pub working-of-spec : {M : Type 1} → statement M
+working-of-spec =
+    tie.close
+    (tie.spec
+    float-at-requires
+    float-at-requires-2
+    float-at-requires-3
+    float-at-requires-4
+    float-at-requires-5
+    float-at-requires-6
+    float-at-requires-7
+    float-at-requires-8
+    returns)

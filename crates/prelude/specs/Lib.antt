@@ -1,0 +1,3 @@
+-- What the definitions of every crate above are written with.
+pub mod Prelude
+pub mod Checks

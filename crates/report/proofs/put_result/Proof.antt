@@ -1,0 +1,47 @@
+-- `report::put_result` meets its contract: three pieces, one behind the other. Assumes nothing.
+use native.Mathlib.Omega.{arith}
+use borrow.Author.Needs.{needs}
+use Rattle.report.proofs.Pieces.{then}
+use Rattle.report.specs.Lines.{resultLine}
+use Rattle.report.proofs.put_result.Statement.{statement}
+use Rattle.report.proofs.put_result.Tie as tie
+
+slice-aggregate-put-text : tie.Need-slice-aggregate-put-text
+slice-aggregate-put-text c = search needs
+
+put-text-requires : tie.Need-put-text-requires
+put-text-requires c κs = search needs
+
+put-decimal-requires : tie.Need-put-decimal-requires
+put-decimal-requires c κs = search needs
+
+slice-aggregate-put-text-2 : tie.Need-slice-aggregate-put-text-2
+slice-aggregate-put-text-2 c = search needs
+
+put-text-requires-2 : tie.Need-put-text-requires-2
+put-text-requires-2 c κs = search needs
+
+same-length : tie.Need-same-length
+same-length c = search needs
+
+returns : tie.Need-returns
+unfolding resultLine
+returns c =
+    let three = c .before .before in
+    let two = three .before .before .before .before .before in
+    let one = two .before .before .before .before in (
+      then (one .put-text .ensures) (then (two .put-decimal .ensures .0) (three .put-text2 .ensures)),
+      omega (arith, one .put-text .ensures .on, two .put-decimal .ensures .1, three .put-text2 .ensures .on),
+    )
+
+pub put-result-spec : {M : Type 1} → statement M
+put-result-spec =
+    tie.close
+    (tie.spec
+    slice-aggregate-put-text
+    put-text-requires
+    put-decimal-requires
+    slice-aggregate-put-text-2
+    put-text-requires-2
+    same-length
+    returns)

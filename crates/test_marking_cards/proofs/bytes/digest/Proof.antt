@@ -1,0 +1,51 @@
+-- `test_marking_cards::bytes::digest` is safe and ends: the place rises to the length. Assumes nothing.
+use Prim.Native.Nat.{_≤_, _-_}
+use lib.ListN.{length}
+use borrow.Author.Needs.{needs}
+use Rattle.test_marking_cards.proofs.bytes.digest.Statement.{statement}
+use Rattle.test_marking_cards.proofs.bytes.digest.Tie as tie
+
+abbrev Inv-loop : tie.InvT-loop
+Inv-loop s h₀ i₀ h i = i ≤ length s
+
+abbrev μ-loop : tie.MeasureT-loop
+μ-loop s h₀ i₀ h i = length s - i
+
+loop-holds : tie.Need-loop-holds Inv-loop μ-loop
+loop-holds c = search needs
+
+shared-slice-read-wide : tie.Need-shared-slice-read-wide Inv-loop μ-loop
+shared-slice-read-wide c = search needs
+
+wide-requires : tie.Need-wide-requires Inv-loop μ-loop
+wide-requires c κs = search needs
+
+times-prime-requires : tie.Need-times-prime-requires Inv-loop μ-loop
+times-prime-requires c κs = search needs
+
+add-i : tie.Need-add-i Inv-loop μ-loop
+add-i c = search needs
+
+loop-less : tie.Need-loop-less Inv-loop μ-loop
+loop-less c = search needs
+
+loop-again : tie.Need-loop-again Inv-loop μ-loop
+loop-again c = search needs
+
+returns : tie.Need-returns Inv-loop μ-loop
+returns c = search needs
+
+pub digest-spec : {M : Type 1} → statement M
+digest-spec =
+    tie.close
+    (tie.spec
+    Inv-loop
+    μ-loop
+    loop-holds
+    shared-slice-read-wide
+    wide-requires
+    times-prime-requires
+    add-i
+    loop-less
+    loop-again
+    returns)
