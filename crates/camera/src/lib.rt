@@ -47,6 +47,7 @@ pub struct PlaceAnswer {
     pub place: SourcePixel,
 }
 
+// Whether neither of two values is a NaN or an infinity.
 fn both_finite(a: f64, b: f64) -> bool
     ensures { λ r. ⌜ r ≡ (isFinite a && isFinite b) ⌝ }
 {
@@ -109,6 +110,7 @@ impl LensDistortion {
         }
     }
 
+    // Whether there is no lens: Brown-Conrady with five zeros is one.
     fn is_none(self) -> bool
         ensures { λ r. ⌜ r ≡ isNone self ⌝ }
     {
@@ -136,6 +138,7 @@ impl LensDistortion {
     }
 }
 
+// A place, or nowhere if one of its coordinates is not finite.
 fn if_finite(p: SourcePixel) -> SourcePoint
     ensures { λ r. ⌜ r ≡ ifFinite p ⌝ }
 {

@@ -33,6 +33,7 @@ pub(crate) fn request_of(
     }
 }
 
+// A label's corners on a photograph as it is: `refine::refine_corners` over lists.
 #[no_mangle]
 pub extern "C" fn trufolmesca_refine_corners(
     bytes: &[u8],

@@ -16,6 +16,7 @@ ghost use Rattle.c_leaves.specs.Leaves.{lentScene, lentRay};
 
 // ---- sampling.rs
 
+// The sample of a photograph at x, y: `c_leaves::sample_bilinear` under its name for C.
 #[no_mangle]
 pub extern "C" fn trufolmesca_sample_bilinear(
     bytes: &[u8],
@@ -37,6 +38,7 @@ pub extern "C" fn trufolmesca_sample_bilinear(
 
 // ---- camera.rs
 
+// Where a rectified place lies in the photograph: `c_leaves::rectified_to_source` under its name for C.
 #[no_mangle]
 pub extern "C" fn trufolmesca_rectified_to_source(
     camera: &[f64],
@@ -53,6 +55,7 @@ pub extern "C" fn trufolmesca_rectified_to_source(
 
 // ---- homography.rs
 
+// The map of the unit square onto four corners: `c_leaves::square_to_quad` under its name for C.
 #[no_mangle]
 pub extern "C" fn trufolmesca_square_to_quad(corners: &[f64], map: &mut [f64]) -> u32
     ensures { λ r. ⌜ r ≡ mapAnswer (squareToQuad (quadOf (now (corners .entry)))) .number ⌝ }
@@ -61,6 +64,7 @@ pub extern "C" fn trufolmesca_square_to_quad(corners: &[f64], map: &mut [f64]) -
     c_leaves::square_to_quad(corners, map)
 }
 
+// The map of four corners onto four others: `c_leaves::quad_to_quad` under its name for C.
 #[no_mangle]
 pub extern "C" fn trufolmesca_quad_to_quad(from: &[f64], to: &[f64], map: &mut [f64]) -> u32
     ensures { λ r. ⌜ r ≡ mapAnswer (quadToQuad (quadOf (now (from .entry))) (quadOf (now (to .entry)))) .number ⌝ }
@@ -70,6 +74,7 @@ pub extern "C" fn trufolmesca_quad_to_quad(from: &[f64], to: &[f64], map: &mut [
     c_leaves::quad_to_quad(from, to, map)
 }
 
+// Where a map sends u, v: `c_leaves::map` under its name for C.
 #[no_mangle]
 pub extern "C" fn trufolmesca_map(map: &[f64], u: f64, v: f64, place: &mut [f64])
     ensures { λ _. ⌜ now (place .exit) ≡ withPlace (mapPoint (mapOf (now (map .entry))) u v) (now (place .entry)) ⌝ }
@@ -77,6 +82,7 @@ pub extern "C" fn trufolmesca_map(map: &[f64], u: f64, v: f64, place: &mut [f64]
     c_leaves::map(map, u, v, place);
 }
 
+// The map that scales: `c_leaves::scaled` under its name for C.
 #[no_mangle]
 pub extern "C" fn trufolmesca_scaled(sx: f64, sy: f64, map: &mut [f64])
     ensures { λ _. ⌜ now (map .exit) ≡ withMap (scaled sx sy) (now (map .entry)) ⌝ }
@@ -84,6 +90,7 @@ pub extern "C" fn trufolmesca_scaled(sx: f64, sy: f64, map: &mut [f64])
     c_leaves::scaled(sx, sy, map);
 }
 
+// The inverse of a map: `c_leaves::inverse` under its name for C.
 #[no_mangle]
 pub extern "C" fn trufolmesca_inverse(map: &[f64], out: &mut [f64])
     ensures { λ _. ⌜ now (out .exit) ≡ withMap (inverse (mapOf (now (map .entry)))) (now (out .entry)) ⌝ }
@@ -101,6 +108,7 @@ pub extern "C" fn trufolmesca_then(inner: &[f64], outer: &[f64], out: &mut [f64]
 
 // ---- line.rs
 
+// The line through weighted points: `c_leaves::fit_line_tls_weighted` under its name for C.
 #[no_mangle]
 pub extern "C" fn trufolmesca_fit_line_tls_weighted(
     xs: &[f64],
@@ -115,6 +123,7 @@ pub extern "C" fn trufolmesca_fit_line_tls_weighted(
     c_leaves::fit_line_tls_weighted(xs, ys, weights, line)
 }
 
+// Where two lines cross: `c_leaves::intersect_lines` under its name for C.
 #[no_mangle]
 pub extern "C" fn trufolmesca_intersect_lines(a: &[f64], b: &[f64], place: &mut [f64]) -> u32
     ensures { λ r. ⌜ r ≡ crossAnswer (crossing (lineOf (now (a .entry))) (lineOf (now (b .entry)))) .number ⌝ }
@@ -126,6 +135,7 @@ pub extern "C" fn trufolmesca_intersect_lines(a: &[f64], b: &[f64], place: &mut 
 
 // ---- refine.rs, `localize_edge_point`
 
+// An edge point on a photograph as it is: `c_leaves::localize_edge_point` under its name for C.
 #[no_mangle]
 pub extern "C" fn trufolmesca_localize_edge_point(
     bytes: &[u8],
@@ -163,6 +173,7 @@ pub extern "C" fn trufolmesca_localize_edge_point(
     )
 }
 
+// An edge point through a camera: `c_leaves::localize_edge_point_mapped` under its name for C.
 #[no_mangle]
 pub extern "C" fn trufolmesca_localize_edge_point_mapped(
     bytes: &[u8],
@@ -206,6 +217,7 @@ pub extern "C" fn trufolmesca_localize_edge_point_mapped(
 
 // ---- the root
 
+// The square root of x, correctly rounded.
 #[no_mangle]
 pub extern "C" fn trufolmesca_sqrt(x: f64) -> f64
     ensures { λ r. ⌜ r ≡ root binary64 x ⌝ }

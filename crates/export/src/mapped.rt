@@ -4,6 +4,7 @@ ghost use Rattle.c_lists.specs.Lent.{viewOf};
 ghost use Rattle.c_answers.specs.Answers.{Written};
 ghost use Rattle.export.specs.Calls.{lentRequest, WrittenMarked};
 
+// A label's corners through a camera: `refine::refine_corners_mapped` over lists.
 #[no_mangle]
 pub extern "C" fn trufolmesca_refine_corners_mapped(
     bytes: &[u8],

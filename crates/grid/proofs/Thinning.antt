@@ -9,6 +9,7 @@ use mathlib.Core.List.{List, [], _∷_, _++_, append-assoc, append-nil}
 use lib.ListN.{length, take, drop, set, length-set, replicate}
 use lib.Seq.{drop-cons, drop-set-lt, take-all, take-nil, take-suc-set}
 use borrow.Author.Tests.{lt-ltb, le-ltb, ne-eqb}
+use Rattle.consts.specs.Consts.{maxEdgePoints}
 use Rattle.consts.specs.declared.Settings.{Settings}
 use Rattle.grid.specs.Grids.{Grid}
 use Rattle.grid.specs.Probes.{everyFrom, decimation, decimated, candidates, probesOf, noProbe, Selected}
@@ -76,10 +77,10 @@ thins-many n most l p = record { some = le-div-iff-mul-le p .1 (omega arith); ri
 -- ---- the store
 
 -- nothing stands behind one that is stored
-unstored : (ps : List Probe) (n : ℕ) (p : Probe) → n < length ps → length ps ≡ 64 → drop n ps ≡ replicate (64 - n) noProbe
-    → drop (n + 1) (set ps n p) ≡ replicate (64 - (n + 1)) noProbe
+unstored : (ps : List Probe) (n : ℕ) (p : Probe) → n < length ps → length ps ≡ maxEdgePoints → drop n ps ≡ replicate (maxEdgePoints - n) noProbe
+    → drop (n + 1) (set ps n p) ≡ replicate (maxEdgePoints - (n + 1)) noProbe
 unstored ps n p l w h =
-    let less : 64 - n ≡ suc (64 - suc n) = omega arith in
+    let less : maxEdgePoints - n ≡ suc (maxEdgePoints - suc n) = omega arith in
     rw add-one
     (drop-set-lt (suc n) ps n p (omega arith)
     ∙ sym (ap (drop 1) (drop-cons ps n noProbe l))
@@ -90,11 +91,11 @@ module _ (s : Settings) (g : Grid) (e k most : ℕ) where
   -- the first n are taken, nothing stands behind them, and what is due of the candidates from place j on, behind so many, fills the rest
   pub record Filled (j skip : ℕ) (ps : List Probe) (n : ℕ) : Type 0 where
     pub fits : n ≤ most
-    pub whole : length ps ≡ 64
+    pub whole : length ps ≡ maxEdgePoints
     pub taken : take n ps ++ take (most - n) (everyFrom k 0 (drop skip (onward s g e j))) ≡ take most (everyFrom k 0 (candidates s g e))
-    pub none : drop n ps ≡ replicate (64 - n) noProbe
+    pub none : drop n ps ≡ replicate (maxEdgePoints - n) noProbe
 
-  pub filled-none : (ps : List Probe) → ps ≡ replicate 64 noProbe → Filled 0 0 ps 0
+  pub filled-none : (ps : List Probe) → ps ≡ replicate maxEdgePoints noProbe → Filled 0 0 ps 0
   filled-none ps h = record {
     fits = omega arith;
     whole = ap length h;
@@ -103,7 +104,7 @@ module _ (s : Settings) (g : Grid) (e k most : ℕ) where
   }
 
   -- the next candidate is stored
-  pub filled-more : {j skip r : ℕ} {ps : List Probe} {n : ℕ} {p : Probe} → Filled j skip ps n → n < most → most ≤ 64 → 0 < k → Sought s g e j skip r → r < 2 * g .dim → p ≡ probeAt s g e r
+  pub filled-more : {j skip r : ℕ} {ps : List Probe} {n : ℕ} {p : Probe} → Filled j skip ps n → n < most → most ≤ maxEdgePoints → 0 < k → Sought s g e j skip r → r < 2 * g .dim → p ≡ probeAt s g e r
       → Filled (r + 1) (k - 1) (set ps n p) (n + 1)
   filled-more {j} {skip} {r} {ps} {n} {p} had l h some at inside is =
       let one : most - n ≡ suc (most - (n + 1)) = omega arith in
@@ -145,7 +146,7 @@ module _ (s : Settings) (g : Grid) (e k most : ℕ) where
 -- ---- the selection
 
 -- the candidates are counted, the pitch is theirs, and every k-th is picked
-pub selected : (s : Settings) (g : Grid) (e n most k : ℕ) {r : Probes} → most ≡ min (s .«max_points_per_edge») 64 → Counted s g e n → Thins n most k → Picked s g e k most r → Selected s g e r
+pub selected : (s : Settings) (g : Grid) (e n most k : ℕ) {r : Probes} → most ≡ min (s .«max_points_per_edge») maxEdgePoints → Counted s g e n → Thins n most k → Picked s g e k most r → Selected s g e r
 unfolding probesOf
 selected s g e n most k h counted thins picked = record {
   probes = picked .probes ∙ thins .right (candidates s g e) (sym (counted .all)) ∙ ap (λ (l : ℕ). decimated l (candidates s g e)) h;

@@ -4,6 +4,7 @@ ghost use Prim.Native.Nat.{_+_, _-_, _*_, _≤_, _<_, min};
 ghost use mathlib.Core.Bool.{_&&_};
 ghost use lib.Dec.{leb};
 ghost use lib.ListN.{length};
+ghost use Rattle.consts.specs.Consts.{maxEdgePoints};
 ghost use Rattle.grid.specs.Grids.{gridOf, bits, goodGrid};
 ghost use Rattle.grid.specs.Probes.{nearEnd, Selected};
 ghost use Rattle.grid.specs.Places.{darkAt, startOf, strideOf, layoutOf, IsLayout, placeAt, probeAt, candidate, Counted, Thins, Sought, Picked};
@@ -81,6 +82,7 @@ fn stride(dim: u32, edge: u32) -> usize
     }
 }
 
+// Where the modules of an edge lie in a grid of this side.
 fn layout_of(dim: u32, edge: u32) -> EdgeLayout
     ensures { λ r. ⌜ r ≡ layoutOf dim edge ⌝ }
 {
@@ -170,6 +172,7 @@ fn candidates_at(settings: Settings, modules: &[u8], side: EdgeLayout, j: usize)
     1
 }
 
+// The probe at place j of an edge, two places a module.
 fn probe_at(settings: Settings, modules: &[u8], side: EdgeLayout, j: usize) -> Probe
     requires { ⌜ (j < 8589934592) × IsLayout side ⌝ }
     ensures { λ r. ⌜ r ≡ probeAt settings (gridOf (side .dim) (now (modules .entry))) (side .edge) j ⌝ }
@@ -201,7 +204,7 @@ fn count_candidates(settings: Settings, modules: &[u8], side: EdgeLayout) -> usi
 
 // Every how many-th of n candidates is a probe, where there is room for `most`.
 fn decimation(n: usize, most: usize) -> usize
-    requires { ⌜ (n ≤ 8589934592) × (most ≤ 64) ⌝ }
+    requires { ⌜ (n ≤ 8589934592) × (most ≤ maxEdgePoints) ⌝ }
     ensures { λ r. ⌜ Thins n most r ⌝ }
 {
     if n <= most {
@@ -240,7 +243,7 @@ fn next_candidate(
 
 // Every k-th candidate, while there is room.
 fn select(settings: Settings, modules: &[u8], side: EdgeLayout, k: usize, most: usize) -> Probes
-    requires { ⌜ ((0 < k) × (most ≤ 64)) × IsLayout side ⌝ }
+    requires { ⌜ ((0 < k) × (most ≤ maxEdgePoints)) × IsLayout side ⌝ }
     ensures { λ r. ⌜ Picked settings (gridOf (side .dim) (now (modules .entry))) (side .edge) k most r ⌝ }
 {
     let none = Probe {
@@ -268,7 +271,7 @@ fn select(settings: Settings, modules: &[u8], side: EdgeLayout, k: usize, most: 
 
 // How many probes an edge may have.
 fn limit(most: u32) -> usize
-    ensures { λ r. ⌜ r ≡ min most 64 ⌝ }
+    ensures { λ r. ⌜ r ≡ min most maxEdgePoints ⌝ }
 {
     let most = most as usize;
     if most < MAX_EDGE_POINTS {

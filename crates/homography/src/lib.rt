@@ -204,6 +204,7 @@ fn joined_map(from: Mapped, to: Mapped) -> Mapped
     Mapped::By(s.inverse().then(d))
 }
 
+// A map as an answer: 8 and a zero map where there is none.
 fn answer_of(m: Mapped) -> MapAnswer
     ensures { λ r. ⌜ r ≡ mapAnswer m ⌝ }
 {

@@ -4,6 +4,7 @@ ghost use lib.Ieee.{binary64, toBits, ofBits, toUnsigned};
 ghost use Rattle.ieee.specs.Parts.{magnitude, isFinite, maximum, floorOf, ceilOf};
 ghost use Rattle.ieee_root.specs.Root.{root};
 
+// `ieee::bits_of` for C.
 #[no_mangle]
 pub extern "C" fn ieee_bits_of(x: f64) -> u64
     ensures { λ r. ⌜ r ≡ toBits binary64 x ⌝ }
@@ -11,6 +12,7 @@ pub extern "C" fn ieee_bits_of(x: f64) -> u64
     ieee::bits_of(x)
 }
 
+// `ieee::from_bits` for C.
 #[no_mangle]
 pub extern "C" fn ieee_from_bits(b: u64) -> f64
     ensures { λ r. ⌜ r ≡ ofBits binary64 b ⌝ }
@@ -18,6 +20,7 @@ pub extern "C" fn ieee_from_bits(b: u64) -> f64
     ieee::from_bits(b)
 }
 
+// `ieee::abs` for C.
 #[no_mangle]
 pub extern "C" fn ieee_abs(x: f64) -> f64
     ensures { λ r. ⌜ r ≡ magnitude x ⌝ }
@@ -25,6 +28,7 @@ pub extern "C" fn ieee_abs(x: f64) -> f64
     ieee::abs(x)
 }
 
+// `ieee::is_finite` for C.
 #[no_mangle]
 pub extern "C" fn ieee_is_finite(x: f64) -> bool
     ensures { λ r. ⌜ r ≡ isFinite x ⌝ }
@@ -32,6 +36,7 @@ pub extern "C" fn ieee_is_finite(x: f64) -> bool
     ieee::is_finite(x)
 }
 
+// `ieee::max` for C.
 #[no_mangle]
 pub extern "C" fn ieee_max(a: f64, b: f64) -> f64
     ensures { λ r. ⌜ r ≡ maximum a b ⌝ }
@@ -39,6 +44,7 @@ pub extern "C" fn ieee_max(a: f64, b: f64) -> f64
     ieee::max(a, b)
 }
 
+// `ieee::floor` for C.
 #[no_mangle]
 pub extern "C" fn ieee_floor(x: f64) -> f64
     ensures { λ r. ⌜ r ≡ floorOf x ⌝ }
@@ -46,6 +52,7 @@ pub extern "C" fn ieee_floor(x: f64) -> f64
     ieee::floor(x)
 }
 
+// `ieee::ceil` for C.
 #[no_mangle]
 pub extern "C" fn ieee_ceil(x: f64) -> f64
     ensures { λ r. ⌜ r ≡ ceilOf x ⌝ }
@@ -53,6 +60,7 @@ pub extern "C" fn ieee_ceil(x: f64) -> f64
     ieee::ceil(x)
 }
 
+// `ieee_root::sqrt` for C.
 #[no_mangle]
 pub extern "C" fn ieee_sqrt(x: f64) -> f64
     ensures { λ r. ⌜ r ≡ root binary64 x ⌝ }
@@ -60,6 +68,7 @@ pub extern "C" fn ieee_sqrt(x: f64) -> f64
     ieee_root::sqrt(x)
 }
 
+// `ieee::whole_part` for C.
 #[no_mangle]
 pub extern "C" fn ieee_whole_part(x: f64) -> u32
     ensures { λ r. ⌜ r ≡ toUnsigned 32 x ⌝ }

@@ -78,6 +78,7 @@ pub fn all_finite(values: &[f64]) -> bool
     true
 }
 
+// Whether no weight is below 0.
 fn none_negative(weights: &[f64]) -> bool
     ensures { λ r. ⌜ r ≡ allTo (length (now (weights .entry))) (λ i. not (at (now (weights .entry)) i ≺ f0)) ⌝ }
 {
@@ -91,6 +92,7 @@ fn none_negative(weights: &[f64]) -> bool
     true
 }
 
+// The sum of the values, from +0 and from the first on.
 fn sum(values: &[f64]) -> f64
     ensures { λ r. ⌜ r ≡ sumTo (length (now (values .entry))) (at (now (values .entry))) ⌝ }
 {
@@ -103,6 +105,7 @@ fn sum(values: &[f64]) -> f64
     total
 }
 
+// The sum of the values times their weights, from +0 and from the first on.
 fn weighted_sum(values: &[f64], weights: &[f64]) -> f64
     requires { ⌜ length (now weights) ≡ length (now values) ⌝ }
     ensures { λ r. ⌜ r ≡ sumTo (length (now (values .entry))) (λ i. at (now (values .entry)) i ⊗ at (now (weights .entry)) i) ⌝ }
@@ -116,6 +119,7 @@ fn weighted_sum(values: &[f64], weights: &[f64]) -> f64
     total
 }
 
+// The weighted second moments of points about c.
 fn scatter_of(xs: &[f64], ys: &[f64], weights: &[f64], c: SourcePixel) -> Moments
     requires { ⌜ length (now ys) ≡ length (now xs) ⌝ ∗ ⌜ length (now weights) ≡ length (now xs) ⌝ }
     ensures { λ r. ⌜ r ≡ scatter (length (now (xs .entry))) (now (xs .entry)) (now (ys .entry)) (now (weights .entry)) c ⌝ }
@@ -174,6 +178,7 @@ fn direction_of(m: Moments) -> Direction
     half_angle_direction(a, b, h)
 }
 
+// Whether neither of two values is a NaN or an infinity.
 fn both_finite(x: f64, y: f64) -> bool
     ensures { λ r. ⌜ r ≡ (isFinite x && isFinite y) ⌝ }
 {
@@ -183,6 +188,7 @@ fn both_finite(x: f64, y: f64) -> bool
     ieee::is_finite(y)
 }
 
+// The line through c along the principal direction of the moments, or 10 or 11.
 fn fit_moments(c: SourcePixel, m: Moments) -> Fitted
     ensures { λ r. ⌜ r ≡ fitMoments c m ⌝ }
 {
@@ -202,6 +208,7 @@ fn fit_moments(c: SourcePixel, m: Moments) -> Fitted
     })
 }
 
+// The line through points and weights that are finite, or 16, 10 or 11.
 fn fit_finite(xs: &[f64], ys: &[f64], weights: &[f64]) -> Fitted
     requires { ⌜ length (now ys) ≡ length (now xs) ⌝ ∗ ⌜ length (now weights) ≡ length (now xs) ⌝ }
     ensures { λ r. ⌜ r ≡ fitFinite (length (now (xs .entry))) (now (xs .entry)) (now (ys .entry)) (now (weights .entry)) ⌝ }
@@ -221,6 +228,7 @@ fn fit_finite(xs: &[f64], ys: &[f64], weights: &[f64]) -> Fitted
     fit_moments(c, m)
 }
 
+// The line through points and weights that are as many, or 15, 16, 10 or 11.
 fn fit_paired(xs: &[f64], ys: &[f64], weights: &[f64]) -> Fitted
     requires { ⌜ length (now ys) ≡ length (now xs) ⌝ ∗ ⌜ length (now weights) ≡ length (now xs) ⌝ }
     ensures { λ r. ⌜ r ≡ fitPaired (length (now (xs .entry))) (now (xs .entry)) (now (ys .entry)) (now (weights .entry)) ⌝ }

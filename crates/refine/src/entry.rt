@@ -45,6 +45,7 @@ fn good_scale(s: f64) -> bool
     s > 0.0
 }
 
+// Whether both scales are finite and above 0.
 fn good_scales(sx: f64, sy: f64) -> bool
     ensures { λ r. ⌜ r ≡ (goodScale sx && goodScale sy) ⌝ }
 {
@@ -74,6 +75,7 @@ fn corner_within_bounds(corner: SourcePixel) -> bool
     within_bounds(corner.1)
 }
 
+// Whether all four corners are finite and not too far out.
 fn all_within_bounds(corners: [SourcePixel; 4]) -> bool
     ensures { λ r. ⌜ r ≡ allWithinBounds corners ⌝ }
 {

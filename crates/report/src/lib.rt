@@ -57,6 +57,7 @@ fn put_hexadecimal(out: &mut [u8], at: usize, n: u64) -> usize
     put_text(out, next, &digits[..k])
 }
 
+// A truth value as the digit 0 or 1, at a place; the place behind it.
 fn put_bit(out: &mut [u8], at: usize, b: bool) -> usize
     requires { ⌜ at + 21 ≤ length (now out) ⌝ }
     ensures { λ r. ⌜ Puts (now (out .entry)) at (decimalOf (bit b)) (now (out .exit)) r ⌝ }
@@ -68,6 +69,7 @@ fn put_bit(out: &mut [u8], at: usize, b: bool) -> usize
     put_decimal(out, at, 0)
 }
 
+// The line of the number; the place behind it.
 fn put_result(out: &mut [u8], number: u32) -> usize
     requires { ⌜ 28 ≤ length (now out) ⌝ }
     ensures { λ r. ⌜ Puts (now (out .entry)) 0 (resultLine number) (now (out .exit)) r ⌝ }
@@ -78,6 +80,7 @@ fn put_result(out: &mut [u8], number: u32) -> usize
     put_text(out, end, b"\n")
 }
 
+// The line of one corner, at a place; the place behind it.
 fn put_corner(out: &mut [u8], at: usize, i: u64, c: SourcePixel, refined: bool) -> usize
     requires { ⌜ at + 83 ≤ length (now out) ⌝ }
     ensures { λ r. ⌜ Puts (now (out .entry)) at (cornerLine i c refined) (now (out .exit)) r ⌝ }
@@ -91,6 +94,7 @@ fn put_corner(out: &mut [u8], at: usize, i: u64, c: SourcePixel, refined: bool) 
     put_text(out, end, b"\n")
 }
 
+// What is counted of one edge, at a place; the place behind it.
 fn put_counts(out: &mut [u8], at: usize, e: EdgeStat) -> usize
     requires { ⌜ at + 84 ≤ length (now out) ⌝ }
     ensures { λ r. ⌜ Puts (now (out .entry)) at (countFields e) (now (out .exit)) r ⌝ }
@@ -102,6 +106,7 @@ fn put_counts(out: &mut [u8], at: usize, e: EdgeStat) -> usize
     put_bit(out, valid, e.valid)
 }
 
+// The line of one edge, at a place; the place behind it.
 fn put_edge(out: &mut [u8], at: usize, i: u64, e: EdgeStat) -> usize
     requires { ⌜ at + 110 ≤ length (now out) ⌝ }
     ensures { λ r. ⌜ Puts (now (out .entry)) at (edgeLine i e) (now (out .exit)) r ⌝ }
@@ -113,6 +118,7 @@ fn put_edge(out: &mut [u8], at: usize, i: u64, e: EdgeStat) -> usize
     put_text(out, end, b"\n")
 }
 
+// The lines of the four corners, at a place; the place behind them.
 fn put_corners(out: &mut [u8], at: usize, r: RefinedCorners) -> usize
     requires { ⌜ at + 332 ≤ length (now out) ⌝ }
     ensures { λ n. ⌜ Puts (now (out .entry)) at (cornerLines r) (now (out .exit)) n ⌝ }
@@ -124,6 +130,7 @@ fn put_corners(out: &mut [u8], at: usize, r: RefinedCorners) -> usize
     put_corner(out, three, 3, r.corners[3], r.corner_refined[3])
 }
 
+// The lines of the four edges, at a place; the place behind them.
 fn put_edges(out: &mut [u8], at: usize, r: RefinedCorners) -> usize
     requires { ⌜ at + 440 ≤ length (now out) ⌝ }
     ensures { λ n. ⌜ Puts (now (out .entry)) at (edgeLines r) (now (out .exit)) n ⌝ }

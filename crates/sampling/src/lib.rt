@@ -119,6 +119,7 @@ fn clamp(x: f64, most: f64) -> f64
     if x > most { most } else { x }
 }
 
+// The four pixels that a place inside the picture falls among, and its fractions.
 fn interior_cell(width: u32, height: u32, x: f64, y: f64) -> Footprint
     ensures { λ r. ⌜ r ≡ interiorCell width height x y ⌝ }
 {
@@ -409,6 +410,7 @@ pub fn sample_at(
 
 // ---- entry checks 1, 2 and 6
 
+// Whether a width or a height is within its limits.
 fn sized(n: u32) -> bool
     ensures { λ r. ⌜ r ≡ sizedBy n ⌝ }
 {
@@ -418,6 +420,7 @@ fn sized(n: u32) -> bool
     n <= MAX_SIDE
 }
 
+// Whether width and height are within their limits.
 fn good_size(width: u32, height: u32) -> bool
     ensures { λ r. ⌜ r ≡ goodSize width height ⌝ }
 {

@@ -2,6 +2,7 @@
 // A line is: the pattern; the bits of the value itself, its root, floor, ceiling and magnitude, and
 // of the larger of it and the value of the line before; whether it is finite; its whole part.
 
+// A byte as a number of 64 bits.
 fn wide(c: u8) -> u64 {
     c as u64
 }
@@ -28,16 +29,19 @@ fn number(line: &[u8; 17]) -> u64 {
     n
 }
 
+// A value's bit pattern, printed.
 fn print_bits(x: f64) {
     io::write_all(1, b" ");
     io::print_hex(1, ieee::bits_of(x), 16);
 }
 
+// A number, printed.
 fn print_number(n: u64) {
     io::write_all(1, b" ");
     io::print_decimal(1, n);
 }
 
+// What each function makes of a value, printed on one line.
 fn print_answers(before: f64, b: u64) {
     let x = ieee::from_bits(b);
     io::print_hex(1, b, 16);

@@ -1,6 +1,7 @@
-// Bytes by their places: reads and writes that pass over what lies outside, dirt, comparison, counts and a digest.
+// Bytes by their places: reads and writes that pass over what lies outside, poison, comparison, counts and a digest.
 ghost use Prim.Native.Nat.{_<_};
 
+// A byte as a number of 64 bits.
 pub(crate) fn wide(b: u8) -> u64
     ensures { λ r. ⌜ r < 256 ⌝ }
 {
@@ -45,6 +46,7 @@ pub(crate) fn behind<'a>(s: &'a [u8], n: usize) -> &'a [u8] {
     &s[n..]
 }
 
+// The bytes, at a place of `out`.
 pub(crate) fn put_bytes(out: &mut [u8], at: usize, bytes: &[u8]) {
     let mut k: usize = 0;
     while k < bytes.len() {
@@ -54,29 +56,30 @@ pub(crate) fn put_bytes(out: &mut [u8], at: usize, bytes: &[u8]) {
 }
 
 // What a buffer holds before a run: every value a byte can have, and for each seed others.
-fn dirt(i: usize, seed: u8) -> u8 {
+fn poison(i: usize, seed: u8) -> u8 {
     std::num::wrapping_add_u8((i % 256) as u8, seed)
 }
 
-pub(crate) fn put_dirt(out: &mut [u8], at: usize, n: usize, seed: u8) {
+// n bytes that no run writes by chance, at a place of `out`.
+pub(crate) fn put_poison(out: &mut [u8], at: usize, n: usize, seed: u8) {
     let mut k: usize = 0;
     while k < n {
-        put(out, at, k, dirt(k, seed));
+        put(out, at, k, poison(k, seed));
         k += 1;
     }
 }
 
-// Dirt all over.
-pub(crate) fn soil(out: &mut [u8], seed: u8) {
+// Poison all over.
+pub(crate) fn poison_all(out: &mut [u8], seed: u8) {
     let n = out.len();
-    put_dirt(out, 0, n, seed);
+    put_poison(out, 0, n, seed);
 }
 
-// Whether all bytes from `from` on are the dirt that was put there.
-pub(crate) fn is_dirt(s: &[u8], from: usize, seed: u8) -> bool {
+// Whether all bytes from `from` on are the poison that was put there.
+pub(crate) fn is_poison(s: &[u8], from: usize, seed: u8) -> bool {
     let mut i: usize = from;
     while i < s.len() {
-        if s[i] != dirt(i, seed) {
+        if s[i] != poison(i, seed) {
             return false;
         }
         i += 1;
@@ -84,6 +87,7 @@ pub(crate) fn is_dirt(s: &[u8], from: usize, seed: u8) -> bool {
     true
 }
 
+// Whether two slices hold the same bytes.
 pub(crate) fn same(a: &[u8], b: &[u8]) -> bool {
     if a.len() != b.len() {
         return false;
@@ -123,6 +127,7 @@ pub(crate) fn first_one(s: &[u8]) -> usize {
     i
 }
 
+// The sum of two numbers of 64 bits, which wraps.
 fn sum(a: u64, b: u64) -> u64 {
     std::num::wrapping_add_u64(a, b)
 }

@@ -8,10 +8,10 @@ use bytes::digest;
 use bytes::first_one;
 use bytes::front;
 use bytes::get;
-use bytes::is_dirt;
+use bytes::is_poison;
+use bytes::poison_all;
 use bytes::put;
 use bytes::same;
-use bytes::soil;
 use bytes::wide;
 use corners::Answer;
 use others::HEAD;
@@ -19,8 +19,8 @@ use others::over_copy;
 use others::over_others;
 use others::shape_of;
 
-// The dirt of runs that are asked what they left of it.
-const DIRT: u8 = 17;
+// The poison of runs that are asked what they left of it.
+const POISON: u8 = 17;
 
 // What a second run has in common with the first.
 struct Same {
@@ -29,6 +29,7 @@ struct Same {
     copy: bool,
 }
 
+// A truth value as 0 or 1, printed.
 fn print_bit(b: bool) {
     if b {
         io::write_all(1, b" 1");
@@ -37,16 +38,19 @@ fn print_bit(b: bool) {
     }
 }
 
+// A number, printed.
 fn print_number(n: u64) {
     io::write_all(1, b" ");
     io::print_decimal(1, n);
 }
 
+// The digest of some bytes, printed.
 fn print_digest(s: &[u8]) {
     io::write_all(1, b" ");
     io::print_hex(1, digest(s), 16);
 }
 
+// What two runs have in common, printed.
 fn print_same(s: Same) {
     print_bit(s.answer);
     print_bit(s.sheet);
@@ -54,10 +58,10 @@ fn print_same(s: Same) {
     io::write_all(1, b"\n");
 }
 
-// Whether all bytes from n on are still dirt, of sheet and copy.
+// Whether all bytes from n on are still poison, of sheet and copy.
 fn print_left(sheet: &[u8], copy: &[u8], n: usize) {
-    print_bit(is_dirt(sheet, n, DIRT));
-    print_bit(is_dirt(copy, n, DIRT));
+    print_bit(is_poison(sheet, n, POISON));
+    print_bit(is_poison(copy, n, POISON));
     io::write_all(1, b"\n");
 }
 
@@ -70,20 +74,20 @@ fn print_marks(sheet: &[u8], copy: &[u8]) {
 }
 
 // The marking run, on buffers that are dirty before.
-fn run_on_dirt(card: &[u8], sheet: &mut [u8], copy: &mut [u8], seed: u8) -> Answer {
-    soil(sheet, seed);
-    soil(copy, seed);
+fn run_on_poison(card: &[u8], sheet: &mut [u8], copy: &mut [u8], seed: u8) -> Answer {
+    poison_all(sheet, seed);
+    poison_all(copy, seed);
     cards::run_job_marking(card, sheet, copy)
 }
 
-// Another run, on dirt of its own, held to what the first one printed and left.
+// Another run, on poison of its own, held to what the first one printed and left.
 fn again(card: &[u8], text: &[u8], sheet: &[u8], copy: &[u8], seed: u8) -> Same {
     let mut sheet_space = io::large_buffer();
     let mut copy_space = io::large_buffer();
     let sheet_again: &mut [u8] = &mut sheet_space;
     let copy_again: &mut [u8] = &mut copy_space;
     let mut text_again = [0u8; 1024];
-    let answer = run_on_dirt(card, sheet_again, copy_again, seed);
+    let answer = run_on_poison(card, sheet_again, copy_again, seed);
     let end = report::answer_lines(answer, &mut text_again);
     Same {
         answer: same(text, &text_again[..end]),
@@ -92,6 +96,7 @@ fn again(card: &[u8], text: &[u8], sheet: &[u8], copy: &[u8], seed: u8) -> Same 
     }
 }
 
+// Whether anything differs between two runs.
 fn differs(s: Same) -> bool {
     if !s.sheet {
         return true;
@@ -116,7 +121,7 @@ fn print_changed(card: &[u8], text: &[u8], sheet: &[u8], copy: &[u8], other: &mu
 
 // A run on a sheet or a copy that is too short, and whether both are as they were.
 fn run_short(card: &[u8], sheet: &mut [u8], copy: &mut [u8]) {
-    let answer = run_on_dirt(card, sheet, copy, DIRT);
+    let answer = run_on_poison(card, sheet, copy, POISON);
     io::write_all(1, b"short");
     print_number(answer.number as u64);
     print_left(sheet, copy, 0);
@@ -180,13 +185,15 @@ fn print_run(card: &[u8], number: u32, text: &[u8], sheet: &[u8], copy: &[u8]) {
     run_both_short(card, n);
 }
 
+// One card, run on dirty buffers in every way that is tried.
 fn run(card: &[u8], sheet: &mut [u8], copy: &mut [u8]) {
     let mut text = [0u8; 1024];
-    let answer = run_on_dirt(card, sheet, copy, DIRT);
+    let answer = run_on_poison(card, sheet, copy, POISON);
     let end = report::answer_lines(answer, &mut text);
     print_run(card, answer.number, &text[..end], sheet, copy);
 }
 
+// A card's length by the three bytes before it.
 fn size_of(head: &[u8; 3]) -> usize {
     wide(head[0]) as usize + 256 * wide(head[1]) as usize + 65536 * wide(head[2]) as usize
 }

@@ -5,7 +5,7 @@ use crate::bytes::front;
 use crate::bytes::get;
 use crate::bytes::put;
 use crate::bytes::put_bytes;
-use crate::bytes::put_dirt;
+use crate::bytes::put_poison;
 use crate::bytes::wide;
 
 // A good card begins with field 1 and the header of field 2: so many bytes.
@@ -25,6 +25,7 @@ pub(crate) struct Shape {
 }
 
 impl Shape {
+    // How many pixels the picture has.
     pub(crate) fn area(self) -> usize
         ensures { λ r. ⌜ r < 2 ^ 48 ⌝ }
     {
@@ -32,16 +33,19 @@ impl Shape {
     }
 }
 
+// The product of a number of 32 bits and one of 16.
 fn product(a: u32, b: u16) -> usize
     ensures { λ r. ⌜ r < 2 ^ 48 ⌝ }
 {
     a as usize * b as usize
 }
 
+// The two bytes at a place as a number.
 fn number_at(s: &[u8], i: usize) -> u16 {
     (wide(get(s, i, 0)) + 256 * wide(get(s, i, 1))) as u16
 }
 
+// The size and stride of a card's picture.
 pub(crate) fn shape_of(card: &[u8]) -> Shape {
     Shape {
         width: number_at(card, 3),
@@ -50,10 +54,12 @@ pub(crate) fn shape_of(card: &[u8]) -> Shape {
     }
 }
 
+// The low byte of a length.
 fn low(n: usize) -> u8 {
     (n % 256) as u8
 }
 
+// The high byte of a length.
 fn high(n: usize) -> u8 {
     (n / 256 % 256) as u8
 }
@@ -89,7 +95,7 @@ pub(crate) fn over_copy(out: &mut [u8], card: &[u8], copy: &[u8]) -> usize {
     let n = shape.area() + GAP as usize;
     put_head(out, card, shape.width as u32, n);
     put_bytes(out, HEAD, copy);
-    put_dirt(out, HEAD + shape.area(), GAP as usize, 77);
+    put_poison(out, HEAD + shape.area(), GAP as usize, 77);
     put_rest(out, card, n)
 }
 
@@ -138,7 +144,7 @@ pub(crate) fn over_others(out: &mut [u8], card: &[u8], sheet: &[u8]) -> usize {
     let stride = shape.width as u32 + GAP;
     let n = product(stride, shape.height);
     put_head(out, card, stride, n);
-    put_dirt(out, HEAD, n, 142);
+    put_poison(out, HEAD, n, 142);
     put_rows(out, shape, behind(card, HEAD), sheet);
     put_rest(out, card, n)
 }

@@ -3,8 +3,8 @@ use Prim.Native.Nat.{_≤_, _-_}
 use mathlib.Core.Path.{_≡_}
 use lib.ListN.{length}
 use borrow.Author.Needs.{needs}
-use Rattle.test_marking_cards.proofs.bytes.put_dirt.Statement.{statement}
-use Rattle.test_marking_cards.proofs.bytes.put_dirt.Tie as tie
+use Rattle.test_marking_cards.proofs.bytes.put_poison.Statement.{statement}
+use Rattle.test_marking_cards.proofs.bytes.put_poison.Tie as tie
 
 abbrev Inv-loop : tie.InvT-loop
 Inv-loop out₀ at n seed k₀ out k = (k ≤ n) × (length out ≡ length out₀)
@@ -15,8 +15,8 @@ abbrev μ-loop : tie.MeasureT-loop
 loop-holds : tie.Need-loop-holds Inv-loop μ-loop
 loop-holds c = search needs
 
-dirt-requires : tie.Need-dirt-requires Inv-loop μ-loop
-dirt-requires c κs = search needs
+poison-requires : tie.Need-poison-requires Inv-loop μ-loop
+poison-requires c κs = search needs
 
 put-requires : tie.Need-put-requires Inv-loop μ-loop
 put-requires c κs = search needs
@@ -36,14 +36,14 @@ same-length c = search needs
 returns : tie.Need-returns Inv-loop μ-loop
 returns c = search needs
 
-pub put-dirt-spec : {M : Type 1} → statement M
-put-dirt-spec =
+pub put-poison-spec : {M : Type 1} → statement M
+put-poison-spec =
     tie.close
     (tie.spec
     Inv-loop
     μ-loop
     loop-holds
-    dirt-requires
+    poison-requires
     put-requires
     add-k
     loop-less

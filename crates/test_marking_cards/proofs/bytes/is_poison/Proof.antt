@@ -2,8 +2,8 @@
 use Prim.Native.Nat.{_-_}
 use lib.ListN.{length}
 use borrow.Author.Needs.{needs}
-use Rattle.test_marking_cards.proofs.bytes.is_dirt.Statement.{statement}
-use Rattle.test_marking_cards.proofs.bytes.is_dirt.Tie as tie
+use Rattle.test_marking_cards.proofs.bytes.is_poison.Statement.{statement}
+use Rattle.test_marking_cards.proofs.bytes.is_poison.Tie as tie
 
 abbrev Inv-loop : tie.InvT-loop
 Inv-loop s from seed i₀ i = Unit {0}
@@ -17,8 +17,8 @@ loop-holds c = search needs
 shared-slice-read-if1 : tie.Need-shared-slice-read-if1 Inv-loop μ-loop
 shared-slice-read-if1 c = search needs
 
-dirt-requires : tie.Need-dirt-requires Inv-loop μ-loop
-dirt-requires c κs = search needs
+poison-requires : tie.Need-poison-requires Inv-loop μ-loop
+poison-requires c κs = search needs
 
 returns : tie.Need-returns Inv-loop μ-loop
 returns c = search needs
@@ -35,15 +35,15 @@ loop-again c = search needs
 returns-2 : tie.Need-returns-2 Inv-loop μ-loop
 returns-2 c = search needs
 
-pub is-dirt-spec : {M : Type 1} → statement M
-is-dirt-spec =
+pub is-poison-spec : {M : Type 1} → statement M
+is-poison-spec =
     tie.close
     (tie.spec
     Inv-loop
     μ-loop
     loop-holds
     shared-slice-read-if1
-    dirt-requires
+    poison-requires
     returns
     add-i
     loop-less
