@@ -81,8 +81,3 @@ unfoldable pub cameraAnswer : CameraCalibration → SourcePixel → PlaceAnswer
 cameraAnswer c p =
     if not (validCamera c) then record { number = number.lens; place = source f0 f0 } else
     placeAnswer (rectifiedToSource c p)
-
--- all of the above, for a proof that computes with them: to unfold this is to unfold what its line names
-unfoldable pub opened : Unit {0}
-unfolding validIntrinsics validLens validCamera sameIntrinsics isNone isIdentity distorted projected ifFinite rectifiedToSource placeAnswer cameraAnswer
-opened = tt

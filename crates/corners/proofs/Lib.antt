@@ -1,2 +1,4 @@
 -- What belongs to no one function of `corners`.
 pub mod Crossings
+-- the definitions opened together
+pub mod Opened

@@ -91,8 +91,3 @@ roundEnd q es =
     if not (eqb (es .number) number.answer) then refused (es .number) else
     if ltb (validCount es) 2 then refused number.thin else
     answered (refinedCorners q es)
-
--- all of the above, for a proof that computes with them: to unfold this is to unfold what its line names
-unfoldable pub opened : Unit {0}
-unfolding refused answered noEdges withEdge validCount crossedAt orElse isAt refinedCorners roundEnd
-opened = tt

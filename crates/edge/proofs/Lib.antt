@@ -3,3 +3,5 @@ pub mod Stores
 pub mod Probing
 -- what the crates above cite
 pub mod Counts
+-- the definitions opened together
+pub mod Opened

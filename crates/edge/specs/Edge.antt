@@ -98,8 +98,3 @@ edge p modules side =
     let len = edgeLength (side .from) (side .to) in
     if len ≺ f1e-9 then done (TooFewPoints (stat 0 0 0 false)) else
     fitted p side (len ⊘ float (p .dim)) (probesOf (p .settings) (gridOf (p .dim) modules) (side .edge))
-
--- all of the above, for a proof that computes with them: to unfold this is to unfold what its line names
-unfoldable pub opened : Unit {0}
-unfolding pointOnSide probeRay localizeProbe probed plus points fitted edgeLength edge
-opened = tt

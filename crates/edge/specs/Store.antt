@@ -1,4 +1,5 @@
 -- The points of an edge as the code keeps them: a slice of x, of y and of weights, the first n of each. Definitions only.
+-- Internal: contracts inside the crate cite it, no public one does, and nothing here has to be believed.
 use mathlib.Core.Path.{_≡_}
 use Prim.Native.Nat.{ℕ, _+_, _≤_, _<_}
 use mathlib.Core.List.{List}

@@ -10,3 +10,5 @@ pub mod Keeping
 pub mod Points
 -- what the crates above cite
 pub mod Counts
+-- the definitions opened together
+pub mod Opened

@@ -1,4 +1,5 @@
 -- What the functions below `fit_edge` ask of the lists that they are lent, and say of the places in them. Definitions only.
+-- Internal: contracts inside the crate cite it, no public one does, and nothing here has to be believed.
 use Prim.Native.Nat.{ℕ, _<_, _≤_}
 use mathlib.Core.Path.{_≡_}
 use mathlib.Core.Bool.{true, false}

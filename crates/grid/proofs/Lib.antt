@@ -5,3 +5,5 @@ pub mod Candidates
 pub mod Thinning
 -- what the crates above cite
 pub mod Counts
+-- the definitions opened together
+pub mod Opened

@@ -41,8 +41,3 @@ bits (suc n) (m ∷ ms) = leb m 1 && bits n ms
 
 unfoldable pub goodGrid : Grid → Bool
 goodGrid g = leb 2 (g .dim) && leb (g .dim) 177 && leb (g .dim * g .dim) (length (g .modules)) && bits (g .dim * g .dim) (g .modules)
-
--- all of the above, for a proof that computes with them: to unfold this is to unfold what its line names
-unfoldable pub opened : Unit {0}
-unfolding dark edgeDark bits goodGrid
-opened = tt

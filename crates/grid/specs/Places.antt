@@ -1,4 +1,5 @@
 -- The places of an edge, two in each module and counted from its start: what the two passes over them promise. Definitions only.
+-- Internal: contracts inside the crate cite it, no public one does, and nothing here has to be believed.
 use mathlib.Core.Path.{_≡_}
 use Prim.Native.Nat.{ℕ, zero, suc, _+_, _-_, _*_, _/_, _%_, _≤_, _<_}
 use mathlib.Core.Bool.{Bool, not}

@@ -73,8 +73,3 @@ pub record Selected (s : Settings) (g : Grid) (e : ℕ) (r : Probes) : Type 0 wh
   pub rest : drop (r .count) (r .probes) ≡ replicate (maxEdgePoints - r .count) noProbe
   pub fits : r .count ≤ maxEdgePoints
   pub whole : length (r .probes) ≡ maxEdgePoints
-
--- all of the above, for a proof that computes with them: to unfold this is to unfold what its line names
-unfoldable pub opened : Unit {0}
-unfolding nearEnd candidateAt moduleCandidates candidatesFrom candidates everyFrom decimation decimated probesOf
-opened = tt

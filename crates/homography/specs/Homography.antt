@@ -126,8 +126,3 @@ zeroMap = record { a11 = f0; a21 = f0; a31 = f0; a12 = f0; a22 = f0; a32 = f0; a
 unfoldable pub mapAnswer : Mapped → MapAnswer
 mapAnswer (By m) = record { number = number.answer; map = m }
 mapAnswer NoMap = record { number = number.quad; map = zeroMap }
-
--- all of the above, for a proof that computes with them: to unfold this is to unfold what its line names
-unfoldable pub opened : Unit {0}
-unfolding affine projective quadMap squareToQuad mapPoint scaled inverse dot composed joined quadToQuad mapAnswer
-opened = tt

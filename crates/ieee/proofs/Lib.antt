@@ -13,3 +13,5 @@ pub mod WholeLaws
 pub mod Trimmed
 pub mod WholeGuess
 pub mod Larger
+-- the definitions opened together
+pub mod Opened

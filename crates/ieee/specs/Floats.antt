@@ -83,8 +83,3 @@ abbrev pub ε : Float
 -- 2 to the 20, the farthest that a corner may lie
 abbrev pub f2^20 : Float
 f2^20 = ofBits binary64 0x4130_0000_0000_0000
-
--- all of the arithmetic, for a proof that computes with it: to unfold this is to unfold what its line names
-unfoldable pub opened : Unit {0}
-unfolding add sub mul div neg lt le eq ofBits ofInt toUnsigned
-opened = tt

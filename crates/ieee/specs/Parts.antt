@@ -52,8 +52,3 @@ maximum a b =
 -- x's whole part, and what is left of x
 abbrev pub splitWhole : Float → Split
 splitWhole x = record { whole = wholePart x; left = x ⊖ float (wholePart x) }
-
--- all of the above, for a proof that computes with them: to unfold this is to unfold what its line names
-unfoldable pub opened : Unit {0}
-unfolding magnitude isFinite floorOf ceilOf maximum
-opened = tt

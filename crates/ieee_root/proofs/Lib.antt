@@ -13,3 +13,5 @@ pub mod Counts
 pub mod Scaled
 pub mod Window
 pub mod Digits
+-- the definitions opened together
+pub mod Opened

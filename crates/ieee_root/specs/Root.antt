@@ -35,8 +35,3 @@ root f (fin false (suc m) e) = rootUnits f (suc m * up e * 2 ^ (2 * low f) / dow
 pub record NearRoot (n r : ℕ) : Type 0 where
   pub low : r * r < n + r
   pub high : n ≤ r * r + r
-
--- all of the above, for a proof that computes with them: to unfold this is to unfold what its line names
-unfoldable pub opened : Unit {0}
-unfolding rootBy rootUnits root
-opened = tt

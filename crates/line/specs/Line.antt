@@ -126,8 +126,3 @@ lineAnswer (Refused n) = record { number = n; line = zeroLine }
 unfoldable pub crossAnswer : Crossing → CrossAnswer
 crossAnswer (At p) = record { number = number.answer; place = p }
 crossAnswer Parallel = record { number = number.parallel; place = source f0 f0 }
-
--- all of the above, for a proof that computes with them: to unfold this is to unfold what its line names
-unfoldable pub opened : Unit {0}
-unfolding sumTo allTo halfAngleDirection principalDirection finitePlace finiteDirection finiteTo mean scatter fitMoments fitFinite fitPaired fitLine crossing lineAnswer crossAnswer
-opened = tt

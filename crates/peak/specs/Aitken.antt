@@ -36,8 +36,3 @@ moved normal p (Shifted along) = Found (edgePoint (source (p .pos .0 ⊕ normal 
 -- the third point, moved to where the three projections tend
 unfoldable pub aitken : Direction → Float → EdgePoint → List Float → Located
 aitken normal step p xs = moved normal p (extrapolate step (getD xs 0 nan) (getD xs 1 nan) (getD xs 2 nan))
-
--- all of the above, for a proof that computes with them: to unfold this is to unfold what its line names
-unfoldable pub opened : Unit {0}
-unfolding extrapolate projection moved aitken
-opened = tt

@@ -63,8 +63,3 @@ peakAt g (some i) = vertex (g (i - 1)) (g i) (g (i + 1)) i
 
 unfoldable pub peak : Settings → Bool → Bool → List Float → Peaked
 peak s inverted inwardDiffers samples = peakAt (corrected inwardDiffers samples) (peakIndex s inverted (corrected inwardDiffers samples))
-
--- all of the above, for a proof that computes with them: to unfold this is to unfold what its line names
-unfoldable pub opened : Unit {0}
-unfolding gradient tailSum corrected innerGradients aboveContrastFloor peakIndex vertex peakAt peak
-opened = tt

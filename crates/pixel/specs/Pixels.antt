@@ -24,8 +24,3 @@ corner q i = getD q i (source nan nan)
 
 unfoldable pub toSource : Float → Float → WorkingPixel → SourcePixel
 toSource sx sy c = source (c .0 ⊘ sx) (c .1 ⊘ sy)
-
--- all of the above, for a proof that computes with them: to unfold this is to unfold what its line names
-unfoldable pub opened : Unit {0}
-unfolding toSource
-opened = tt

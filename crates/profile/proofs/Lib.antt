@@ -3,3 +3,5 @@ pub mod Gather
 pub mod Passes
 pub mod Bounds
 pub mod Answers
+-- the definitions opened together
+pub mod Opened

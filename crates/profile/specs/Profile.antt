@@ -101,8 +101,3 @@ localizeEdgePoint bytes stride e y =
     let n = viewNumber bytes stride e in
     if not (eqb n number.answer) then record { number = n; point = noPoint } else
     pointAnswer (value e (photo bytes stride) (localize defaults y))
-
--- all of the above, for a proof that computes with them: to unfold this is to unfold what its line names
-unfoldable pub opened : Unit {0}
-unfolding offsetAlong sampleProfile profile found passed pass andThen _>>=_ passes localize pointAnswer viewNumber localizeEdgePoint
-opened = tt

@@ -4,3 +4,5 @@ pub mod Checks
 pub mod Corners
 pub mod Calls
 pub mod Answers
+-- the definitions opened together
+pub mod Opened

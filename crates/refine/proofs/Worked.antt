@@ -9,28 +9,24 @@ use lib.ListN.{length, replicate}
 use lib.Ieee.{Float, binary64, neg, toBits}
 use Rattle.prelude.specs.Prelude.{if_then_else_}
 use Rattle.number.specs.Numbers as number
-use Rattle.ieee.specs.Floats as Floats
-use Rattle.ieee.specs.Parts as Parts
-use Rattle.ieee_root.specs.Root as Root
-use Rattle.sampling.specs.Photographs as Photographs
-use Rattle.sampling.specs.Sampling as Sampling
-use Rattle.sample_tree.specs.SampleTree as SampleTree
-use Rattle.homography.specs.Homography as Homography
-use Rattle.line.specs.Line as Line
-use Rattle.fit.specs.Fit as Fit
-use Rattle.peak.specs.Peak as Peaks
-use Rattle.peak.specs.Aitken as Aitken
-use Rattle.profile.specs.Profile as Profile
-use Rattle.grid.specs.Grids as Grids
-use Rattle.grid.specs.Probes as Probes
-use Rattle.edge.specs.Edge as Edge
-use Rattle.corners.specs.Corners as Corners
-use Rattle.rounds.specs.Rounds as Rounds
-use Rattle.refine.specs.Refine as Refine
+use Rattle.ieee.proofs.Opened as Ieee
+use Rattle.ieee_root.proofs.Opened as Root
+use Rattle.pixel.proofs.Opened as Pixel
+use Rattle.sampling.proofs.Opened as Sampling
+use Rattle.sample_tree.proofs.Opened as SampleTree
+use Rattle.homography.proofs.Opened as Homography
+use Rattle.line.proofs.Opened as Line
+use Rattle.fit.proofs.Opened as Fit
+use Rattle.peak.proofs.Opened as Peak
+use Rattle.profile.proofs.Opened as Profile
+use Rattle.grid.proofs.Opened as Grids
+use Rattle.edge.proofs.Opened as Edge
+use Rattle.corners.proofs.Opened as Corners
+use Rattle.rounds.proofs.Opened as Rounds
+use Rattle.refine.proofs.Opened as Refine
 use Rattle.ieee.specs.Floats.{_⊘_, f0, f1, f2, f3, f½, float}
 use Rattle.consts.specs.Consts.{defaults}
 use Rattle.pixel.specs.Pixels.{source, direction, edgePoint}
-use Rattle.pixel.specs.Pixels as Pixels
 use Rattle.pixel.specs.declared.SourcePixel.{SourcePixel}
 use Rattle.pixel.specs.declared.WorkingPixel.{WorkingPixel}
 use Rattle.homography.specs.declared.MapAnswer.{MapAnswer}
@@ -158,7 +154,7 @@ right (c ∷ cs) = eqb (outcome (c .0) .number) (c .1 .number) && sameValues (ou
 
 pub worked : T (right cases)
 unfolding right sameValues cases outcome only rightwards ofPoint ofSample ofMap ofCrossing allDark quarters toBits
-    Floats.opened Parts.opened Root.opened Photographs.opened Sampling.opened Homography.opened Line.opened Peaks.opened Aitken.opened Profile.opened Grids.opened Probes.opened
+    Ieee.opened Root.opened Sampling.opened Homography.opened Line.opened Peak.opened Profile.opened Grids.opened
 worked = tt
 
 -- ---- the grey photograph
@@ -184,6 +180,6 @@ grey-photograph = record { bytes = replicate 16 128; stride = 4 }
 
 pub grey-is-thin : T (eqb (refine grey (1 ∷ 1 ∷ 1 ∷ 1 ∷ []) grey-photograph .number) 9)
 unfolding grey grey-photograph at
-    Floats.opened Parts.opened Root.opened Pixels.opened Photographs.opened Sampling.opened SampleTree.opened Homography.opened Line.opened Fit.opened
-    Peaks.opened Aitken.opened Profile.opened Grids.opened Probes.opened Edge.opened Corners.opened Rounds.opened Refine.opened
+    Ieee.opened Root.opened Pixel.opened Sampling.opened SampleTree.opened Homography.opened Line.opened Fit.opened
+    Peak.opened Profile.opened Grids.opened Edge.opened Corners.opened Rounds.opened Refine.opened
 grey-is-thin = tt

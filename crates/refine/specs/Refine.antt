@@ -110,8 +110,3 @@ readsOf r ms p = reads (sceneOf r) (shown p) (refinement r ms)
 
 unfoldable pub refine : Request → List ℕ → Photograph → Answer
 refine r ms p = if eqb (entry r ms p) number.answer then result r ms p else refused (entry r ms p)
-
--- all of the above, for a proof that computes with them: to unfold this is to unfold what its line names
-unfoldable pub opened : Unit {0}
-unfolding sourceCorners goodScale withinBounds allWithinBounds entry refinement result readsOf refine
-opened = tt

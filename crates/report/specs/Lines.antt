@@ -73,8 +73,3 @@ unfoldable pub answerLines : Answer → List ℕ
 answerLines a =
     if eqb (a .number) number.answer then resultLine (a .number) ++ (cornerLines (a .refined) ++ edgeLines (a .refined)) else
     resultLine (a .number)
-
--- all of the above, for a proof that computes with them: to unfold this is to unfold what its line names
-unfoldable pub opened : Unit {0}
-unfolding decimalTo decimal hexadecimal resultLine cornerLine countFields edgeLine cornerLines edgeLines answerLines
-opened = tt

@@ -1,4 +1,5 @@
 -- What a function that writes a piece of text promises. Definitions only.
+-- Internal: contracts inside the crate cite it, no public one does, and nothing here has to be believed.
 use mathlib.Core.Path.{_≡_}
 use Prim.Native.Nat.{ℕ, _+_}
 use mathlib.Core.List.{List}

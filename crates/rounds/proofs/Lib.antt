@@ -3,3 +3,5 @@ pub mod EdgeByEdge
 pub mod RoundByRound
 pub mod Fours
 pub mod Answers
+-- the definitions opened together
+pub mod Opened

@@ -66,8 +66,3 @@ unfoldable pub rounds : Plan → List ℕ → List SourcePixel → SampleTree An
 rounds p ms q = do
   first ← round p ms q
   if eqb (first .number) number.answer then remainingRounds p ms (p .settings .rounds - 1) first else done first
-
--- all of the above, for a proof that computes with them: to unfold this is to unfold what its line names
-unfoldable pub opened : Unit {0}
-unfolding unlessRefused edgesFrom mappedRound round isWeak remainingRounds rounds
-opened = tt

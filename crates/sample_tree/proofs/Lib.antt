@@ -9,3 +9,5 @@ pub mod Sheets
 pub mod Meaning
 pub mod Bounds
 pub mod Demand3
+-- the definitions opened together
+pub mod Opened

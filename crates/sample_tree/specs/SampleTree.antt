@@ -40,8 +40,3 @@ module _ (e : Scene) (p : Photo) where
   unfoldable pub sampleCount : {A : Type 0} → SampleTree A → ℕ
   sampleCount (done a) = 0
   sampleCount (sample q k) = suc (sampleCount (k (interpolate p (sceneFootprint e q))))
-
--- all of the above, for a proof that computes with them: to unfold this is to unfold what its line names
-unfoldable pub opened : Unit {0}
-unfolding _>>=_ value reads sampleCount
-opened = tt

@@ -4,3 +4,5 @@ pub mod Pixels
 pub mod Shades
 pub mod Answers
 pub mod Inside
+-- the definitions opened together
+pub mod Opened

@@ -42,8 +42,3 @@ photographChecks w h stride bytes =
 
 unfoldable pub photographNumber : ℕ → ℕ → ℕ → ℕ → ℕ
 photographNumber w h stride bytes = first (photographChecks w h stride bytes)
-
--- all of the above, for a proof that computes with them: to unfold this is to unfold what its line names
-unfoldable pub opened : Unit {0}
-unfolding sized goodSize goodPhotograph photographNumber
-opened = tt

@@ -116,8 +116,3 @@ sceneFootprint s q = viewedFootprint (s .width) (s .height) (s .view) q
 unfoldable pub goodView : View → Bool
 goodView Plain = true
 goodView (Calibrated c) = validCamera c
-
--- all of the above, for a proof that computes with them: to unfold this is to unfold what its line names
-unfoldable pub opened : Unit {0}
-unfolding interiorCell clamped atBorder outside footprint pixelsRead bilinear interpolate lumaAnswer sampleBilinear pointFootprint viewedFootprint goodView
-opened = tt
