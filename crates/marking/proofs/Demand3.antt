@@ -1,5 +1,5 @@
 -- Demand 3, of the marking calls: `demand-3` proves what specs/Demand3 states, of every request.
--- Why: a call that passes the entry checks leaves the sheet and the copy of its run in front of the bytes past width × height, and look's demand 3 holds of every
+-- Why: a call that passes the entry checks leaves the sheet and the copy of its run in front of the bytes past width × height, and the tree's demand 3 holds of every
 -- run. Two calls take the same steps, since these go by the grid's own modules. Bytes that begin with the blanked copy, in rows of width bytes, show at each pixel of the picture what the copy has there. Assumes nothing.
 use mathlib.Core.Path.{_≡_, sym, ap, _∙_}
 use mathlib.Core.Logic.{_↔_}
@@ -123,7 +123,7 @@ module _ (r : Request) (grid : List ℕ) where
   unfolding readsOf
   inside a x y = each-read (Inside (r .width) (r .height)) x y (readsIn r grid a) (reads-inside (sceneOf r) (size a) (seen a) (refinement r (a .modules)))
 
-  -- and look's demand 3 holds of its run
+  -- and the tree's demand 3 holds of its run
   demand : (a : Call r grid) → oneSample.Demand3 (sceneOf r) (refinement r (a .modules))
   demand a = oneSample.demand-3 (sceneOf r) (size a) (refinement r (a .modules))
 

@@ -10,7 +10,7 @@ use Rattle.sampling.specs.Photographs.{Photo, Pixel}
 use Rattle.sampling.specs.declared.Scene.{Scene}
 use Rattle.sampling.specs.declared.Sampled.{Sampled}
 use Rattle.sampling.specs.Sampling.{sceneFootprint, pixelsRead, interpolate}
-use Rattle.sampling.proofs.Shades.{Same, shade-same}
+use Rattle.sampling.proofs.Interpolation.{Same, interpolate-same}
 use Rattle.sample_tree.specs.SampleTree.{SampleTree, done, sample, value, reads, sampleCount}
 
 -- over q the step runs as it does over p
@@ -26,7 +26,7 @@ module _ (e : Scene) (p q : Photo) where
   alike (sample c k) h =
       let at = sceneFootprint e c in
       let both = each-both (Same p q) (pixelsRead at) (reads e p (k (interpolate p at))) h in
-      let same : interpolate q at ≡ interpolate p at = shade-same p q at (both .0) in
+      let same : interpolate q at ≡ interpolate p at = interpolate-same p q at (both .0) in
       let rest = alike (k (interpolate p at)) (both .1) in
       record {
         ends = ap (λ (z : Sampled). value e q (k z)) same ∙ rest .ends;

@@ -13,7 +13,7 @@ use Rattle.prelude.specs.Prelude.{if_then_else_, bit}
 use Rattle.sampling.specs.Photographs.{Photo, photo, Pixel}
 use Rattle.sampling.specs.declared.Scene.{Scene}
 use Rattle.pixel.proofs.Places.{place-lt}
-use Rattle.sampling.proofs.Shades.{Same}
+use Rattle.sampling.proofs.Interpolation.{Same}
 use Rattle.sampling.proofs.Inside.{Sized}
 use Rattle.sample_tree.specs.SampleTree.{SampleTree, reads}
 use Rattle.sample_tree.specs.Sheets.{isRead, sheet, copy}

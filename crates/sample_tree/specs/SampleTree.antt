@@ -1,4 +1,4 @@
--- A step of the refinement looks at the photograph, and where it looks next depends on what it saw. `Look A` is such a step that ends in an A:
+-- A step of the refinement looks at the photograph, and where it looks next depends on what it saw. `SampleTree A` is such a step that ends in an A:
 -- a tree that asks for samples, one after another. No photograph stands in it. Over a photograph it has a value, it reads pixels, and it takes
 -- a number of samples. Definitions only; what holds of every tree is in proofs/.
 use Prim.Native.Nat.{ℕ, suc}

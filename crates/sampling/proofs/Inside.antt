@@ -68,7 +68,7 @@ clamped-le n x h f = go (x ≺ f0) (float n ≺ x) refl
     go false true e = whole-part-le n (float n) h (float-finite n h) (not-itself (float n))
     go false false e = whole-part-le n x h f e
 
--- ---- a spot
+-- ---- a footprint
 
 -- what check 1 says of a size
 pub record Sized (w h : ℕ) : Type 0 where
@@ -102,7 +102,7 @@ photograph-checked w h stride bytes e =
     let u = both (leb w stride) (leb stride 65535) (t .0) in
     record { across = leb-true w stride (u .0); narrow = leb-true stride 65535 (u .1); down = leb-true ((h - 1) * stride + w) bytes (t .1) }
 
--- a spot's four pixels: the fourth is the last, and lies in the picture
+-- a footprint's four pixels: the fourth is the last, and lies in the picture
 unfoldable pub Cut : ℕ → ℕ → Footprint → Type 0
 Cut w h Rejected = Unit {0}
 Cut w h (Border v) = Unit {0}
@@ -120,9 +120,9 @@ module _ (w h : ℕ) (wide : w < 2 ^ 32) (high : h < 2 ^ 32) where
       within-cut (clamped x (float (w - 1))) (clamped y (float (h - 1))) (clamped-le (w - 1) x (omega arith) fx) (clamped-le (h - 1) y (omega arith) fy)
   beyond-cut (Constant v) x y fx fy = tt
 
-  pub spot-cut : (b : BorderMode) (x y : Float) → Cut w h (footprint w h b x y)
+  pub footprint-cut : (b : BorderMode) (x y : Float) → Cut w h (footprint w h b x y)
   unfolding Cut footprint outside
-  spot-cut b x y = go (not (isFinite x) || not (isFinite y)) refl (outside w h x y) refl
+  footprint-cut b x y = go (not (isFinite x) || not (isFinite y)) refl (outside w h x y) refl
     where
       go : (a : Bool) → (not (isFinite x) || not (isFinite y)) ≡ a → (o : Bool) → outside w h x y ≡ o
           → Cut w h (if a then Rejected else if o then atBorder w h b x y else interiorCell w h x y)
@@ -141,12 +141,12 @@ module _ (w h : ℕ) (wide : w < 2 ^ 32) (high : h < 2 ^ 32) where
 
   placed-cut : (r : SourcePoint) → Cut w h (pointFootprint w h r)
   unfolding pointFootprint Cut
-  placed-cut (At q) = spot-cut Reject (q .0) (q .1)
+  placed-cut (At q) = footprint-cut Reject (q .0) (q .1)
   placed-cut Nowhere = tt
 
   pub viewed-cut : (v : View) (q : SourcePixel) → Cut w h (viewedFootprint w h v q)
   unfolding viewedFootprint
-  viewed-cut Plain q = spot-cut Reject (q .0) (q .1)
+  viewed-cut Plain q = footprint-cut Reject (q .0) (q .1)
   viewed-cut (Calibrated c) q = placed-cut (rectifiedToSource c q)
 
 pub cut-ordered : (w h : ℕ) (at : Footprint) → Cut w h at → Ordered at
@@ -171,8 +171,8 @@ cut-inside w h size (Cell x0 y0 x1 y1 fx fy) c = (
 )
 
 -- of a sample under any border mode, and of one of the refinement
-pub spot-ordered : (w h : ℕ) → w < 2 ^ 32 → h < 2 ^ 32 → (b : BorderMode) (x y : Float) → Ordered (footprint w h b x y)
-spot-ordered w h wide high b x y = cut-ordered w h (footprint w h b x y) (spot-cut w h wide high b x y)
+pub footprint-ordered : (w h : ℕ) → w < 2 ^ 32 → h < 2 ^ 32 → (b : BorderMode) (x y : Float) → Ordered (footprint w h b x y)
+footprint-ordered w h wide high b x y = cut-ordered w h (footprint w h b x y) (footprint-cut w h wide high b x y)
 
 module _ (e : Scene) where
   pub scene-ordered : e .width < 2 ^ 32 → e .height < 2 ^ 32 → (q : SourcePixel) → Ordered (sceneFootprint e q)

@@ -1,7 +1,7 @@
 -- What the proofs of `sampling`, and of the crates above it, share.
-pub mod Spots
+pub mod Footprints
 pub mod Pixels
-pub mod Shades
+pub mod Interpolation
 pub mod Answers
 pub mod Inside
 -- the definitions opened together

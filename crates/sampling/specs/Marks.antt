@@ -36,13 +36,13 @@ unfoldable pub cellMarked : ℕ → ℕ → ℕ → ℕ → ℕ → CellBytes �
 cellMarked w x0 y0 x1 y1 v b =
     if reach (y1 * w + x1) b then buffers (written w x0 y0 x1 y1 ones (b .sheet)) (written w x0 y0 x1 y1 v (b .copy)) else b
 
--- what a sample that falls at a spot makes of them
+-- what a sample that falls at a footprint makes of them
 unfoldable pub marked : Photo → ℕ → Footprint → Buffers → Buffers
 marked p w Rejected b = b
 marked p w (Border v) b = b
 marked p w (Cell x0 y0 x1 y1 fx fy) b = cellMarked w x0 y0 x1 y1 (cellOf p x0 y0 x1 y1) b
 
--- A sample that falls at a spot shows r, and takes the buffers, of rows of w bytes, from b to b′.
+-- A sample that falls at a footprint shows r, and takes the buffers, of rows of w bytes, from b to b′.
 pub record ReadsSample (p : Photo) (w : ℕ) (at : Footprint) (r : Sampled) (b b′ : Buffers) : Type 0 where
   pub answer : r ≡ interpolate p at
   pub marks : b′ ≡ marked p w at b

@@ -178,7 +178,7 @@ fn rejecting_footprint(width: u32, height: u32, x: f64, y: f64) -> Footprint
 }
 
 // A place seen through a camera. The camera's tests and steps stand here one by one: a call that takes the whole
-// camera at every sample made a refinement a quarter slower. Whether the result is finite its spot tells.
+// camera at every sample made a refinement a quarter slower. Whether the result is finite its footprint tells.
 fn through_camera(camera: CameraCalibration, p: SourcePixel) -> SourcePoint
     ensures { λ r. ⌜ ((w h : ℕ) → pointFootprint w h r ≡ pointFootprint w h (rectifiedToSource camera p)) ⌝ }
 {
@@ -205,7 +205,7 @@ fn through_view(view: View, p: SourcePixel) -> SourcePoint
 }
 
 // Where a sample of the refinement falls: through the camera, where there is one, with the border
-// rejected. One call finds the spot for every view, so that the compiler puts it in.
+// rejected. One call finds the footprint for every view, so that the compiler puts it in.
 fn source_footprint(scene: Scene, p: SourcePixel) -> Footprint
     ensures { λ r. ⌜ r ≡ sceneFootprint scene p ⌝ }
 {
@@ -338,7 +338,7 @@ fn mark_cell(
     write_cell(copy, width, x0, y0, x1, y1, cell);
 }
 
-// What a sample shows that falls at a spot. The pixels that it reads are marked and copied, in rows of
+// What a sample shows that falls at a footprint. The pixels that it reads are marked and copied, in rows of
 // `width` bytes.
 fn read_sample(
     bytes: &[u8],

@@ -1,6 +1,6 @@
 -- `atBorder` meets its contract: a case for each border mode. Assumes nothing.
 use Rattle.sampling.specs.Sampling.{atBorder}
-use Rattle.sampling.proofs.Spots.{clamped-spot}
+use Rattle.sampling.proofs.Footprints.{clamped-footprint}
 use borrow.Author.Needs.{needs}
 use Rattle.sampling.proofs.at_border.Statement.{statement}
 use Rattle.sampling.proofs.at_border.Tie as tie
@@ -40,7 +40,7 @@ unfolding atBorder
 returns c = rw (c .enum-told .given .1)
 
 returns-2 : tie.Need-returns-2
-returns-2 c = clamped-spot _ _ _ _ _ (c .before .before .before .before .before .before .before .enum-told2 .given .1) (c .before .before .before .before .before .before .last .ensures) (c .before .before .before .before .clamp .ensures) (c .before .before .before .last2 .ensures) (c .before .clamp2 .ensures) (c .interior-cell .ensures)
+returns-2 c = clamped-footprint _ _ _ _ _ (c .before .before .before .before .before .before .before .enum-told2 .given .1) (c .before .before .before .before .before .before .last .ensures) (c .before .before .before .before .clamp .ensures) (c .before .before .before .last2 .ensures) (c .before .clamp2 .ensures) (c .interior-cell .ensures)
 
 returns-3 : tie.Need-returns-3
 unfolding atBorder

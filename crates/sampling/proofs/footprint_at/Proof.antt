@@ -1,7 +1,7 @@
 -- `footprint_at` meets its contract: inside, not finite, and beyond the edges. Assumes nothing.
 use mathlib.Core.Path.{sym, _∙_}
 use Rattle.prelude.proofs.Tests.{failed, passed}
-use Rattle.sampling.proofs.Spots.{off-x, off-y, off-outside, in-within}
+use Rattle.sampling.proofs.Footprints.{off-x, off-y, off-outside, in-within}
 use borrow.Author.Needs.{needs}
 use Rattle.sampling.proofs.footprint_at.Statement.{statement}
 use Rattle.sampling.proofs.footprint_at.Tie as tie

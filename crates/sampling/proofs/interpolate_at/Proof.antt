@@ -1,5 +1,5 @@
--- `interpolate_at` meets its contract: a case for each spot. Assumes nothing.
-use Rattle.sampling.proofs.Shades.{shade-among}
+-- `interpolate_at` meets its contract: a case for each footprint. Assumes nothing.
+use Rattle.sampling.proofs.Interpolation.{interpolate-cell}
 use Rattle.sampling.specs.Sampling.{interpolate, Ordered}
 use Rattle.sampling.specs.declared.Footprint.{Footprint}
 use mathlib.Core.Path.{subst}
@@ -35,7 +35,7 @@ unfolding interpolate
 returns-2 c = rw (c .before .before .footprint .given .1)
 
 returns-3 : tie.Need-returns-3
-returns-3 c = shade-among _ _ _ _ _ _ _ (c .before .before .before .footprint2 .given .1) (c .before .cell-at .ensures) (c .bilinear-of .ensures)
+returns-3 c = interpolate-cell _ _ _ _ _ _ _ (c .before .before .before .footprint2 .given .1) (c .before .cell-at .ensures) (c .bilinear-of .ensures)
 
 pub interpolate-at-spec : {M : Type 1} → statement M
 interpolate-at-spec =

@@ -1,6 +1,6 @@
 -- `is_inside` meets its contract: each comparison is one that the definition makes, or its counterpart. Assumes nothing.
 use native.Mathlib.Omega.{arith}
-use Rattle.sampling.proofs.Spots.{inside-before, inside-after, inside-above, inside-below}
+use Rattle.sampling.proofs.Footprints.{inside-before, inside-after, inside-above, inside-below}
 use borrow.Author.Needs.{needs}
 use Rattle.sampling.proofs.is_inside.Statement.{statement}
 use Rattle.sampling.proofs.is_inside.Tie as tie

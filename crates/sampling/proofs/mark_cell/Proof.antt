@@ -1,5 +1,5 @@
 -- `mark_cell` meets its contract: a sheet that is empty, a sheet or a copy that ends before the last pixel, and else two buffers written. Assumes nothing.
-use Rattle.sampling.proofs.Shades.{short-sheet, short-copy, both-reach}
+use Rattle.sampling.proofs.Interpolation.{short-sheet, short-copy, both-reach}
 use mathlib.Core.Path.{refl}
 use native.Mathlib.Omega.{arith}
 use borrow.Author.Needs.{needs}

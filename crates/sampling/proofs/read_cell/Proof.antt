@@ -1,5 +1,5 @@
 -- `read_cell` meets its contract: each place is at most the last, which the photograph reaches. Assumes nothing.
-use Rattle.sampling.proofs.Shades.{cell-places}
+use Rattle.sampling.proofs.Interpolation.{cell-places}
 use native.Mathlib.Omega.{arith}
 use borrow.Author.Needs.{needs}
 use Rattle.sampling.proofs.read_cell.Statement.{statement}

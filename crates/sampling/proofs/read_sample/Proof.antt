@@ -1,5 +1,5 @@
--- `read_sample` meets its contract: a case for each spot. Assumes nothing.
-use Rattle.sampling.proofs.Shades.{shows-off, shows-edging, shows-among}
+-- `read_sample` meets its contract: a case for each footprint. Assumes nothing.
+use Rattle.sampling.proofs.Interpolation.{reads-rejected, reads-border, reads-cell}
 use Rattle.sampling.specs.Sampling.{Ordered}
 use Rattle.sampling.specs.declared.Footprint.{Footprint}
 use mathlib.Core.Path.{subst}
@@ -31,10 +31,10 @@ bilinear-of-requires : tie.Need-bilinear-of-requires
 bilinear-of-requires c κs = search needs
 
 returns : tie.Need-returns
-returns c = shows-off _ _ _ (c .enum-told .given .1)
+returns c = reads-rejected _ _ _ (c .enum-told .given .1)
 
 returns-2 : tie.Need-returns-2
-returns-2 c = shows-edging _ _ _ (c .before .before .footprint .given .1)
+returns-2 c = reads-border _ _ _ (c .before .before .footprint .given .1)
 
 same-length : tie.Need-same-length
 same-length c = search needs
@@ -43,7 +43,7 @@ same-length-2 : tie.Need-same-length-2
 same-length-2 c = search needs
 
 returns-3 : tie.Need-returns-3
-returns-3 c = shows-among _ _ _ _ _ _ _ _ _ (c .before .before .before .before .before .before .before .before .before .before .footprint2 .given .1) (c .before .before .before .before .before .before .before .before .cell-at .ensures) (c .before .before .before .before .before .mark-cell .ensures) (c .bilinear-of .ensures)
+returns-3 c = reads-cell _ _ _ _ _ _ _ _ _ (c .before .before .before .before .before .before .before .before .before .before .footprint2 .given .1) (c .before .before .before .before .before .before .before .before .cell-at .ensures) (c .before .before .before .before .before .mark-cell .ensures) (c .bilinear-of .ensures)
 
 pub read-sample-spec : {M : Type 1} → statement M
 read-sample-spec =

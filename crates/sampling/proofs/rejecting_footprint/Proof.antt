@@ -1,6 +1,6 @@
 -- `rejecting_footprint` meets its contract: inside, and what is not inside is rejected. Assumes nothing.
 use mathlib.Core.Path.{sym, _∙_}
-use Rattle.sampling.proofs.Spots.{in-within, rejected}
+use Rattle.sampling.proofs.Footprints.{in-within, rejected}
 use borrow.Author.Needs.{needs}
 use Rattle.sampling.proofs.rejecting_footprint.Statement.{statement}
 use Rattle.sampling.proofs.rejecting_footprint.Tie as tie

@@ -1,4 +1,4 @@
--- `sample_at` meets its contract: the spot is the scene's, whose fourth pixel is its last. Assumes nothing.
+-- `sample_at` meets its contract: the footprint is the scene's, whose fourth pixel is its last. Assumes nothing.
 use Rattle.sampling.proofs.Inside.{scene-ordered}
 use Rattle.sampling.specs.Sampling.{Ordered}
 use Rattle.sampling.specs.declared.Footprint.{Footprint}

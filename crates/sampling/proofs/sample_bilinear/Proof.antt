@@ -1,6 +1,6 @@
 -- `sample_bilinear` meets its contract: the photograph's number, and then a case for each answer of `interpolate_at`. Assumes nothing.
 use Rattle.sampling.proofs.Answers.{refused, shown}
-use Rattle.sampling.proofs.Inside.{spot-ordered}
+use Rattle.sampling.proofs.Inside.{footprint-ordered}
 use Rattle.sampling.specs.declared.Footprint.{Footprint}
 use native.Mathlib.Omega.{arith}
 use mathlib.Core.Path.{sym, subst}
@@ -19,7 +19,7 @@ footprint-at-requires : tie.Need-footprint-at-requires
 footprint-at-requires c κs = search needs
 
 interpolate-at-requires : tie.Need-interpolate-at-requires
-interpolate-at-requires c κs = subst (λ (z : Footprint). Ordered z) (sym (c .footprint-at .ensures)) (spot-ordered _ _ (omega arith) (omega arith) _ _ _)
+interpolate-at-requires c κs = subst (λ (z : Footprint). Ordered z) (sym (c .footprint-at .ensures)) (footprint-ordered _ _ (omega arith) (omega arith) _ _ _)
 
 enum-known-sampled : tie.Need-enum-known-sampled
 enum-known-sampled c = search needs

@@ -1,5 +1,5 @@
--- `source_footprint` meets its contract: the spot of the place that `through_view` ensures. Assumes nothing.
-use Rattle.sampling.proofs.Spots.{placed-on, placed-nowhere}
+-- `source_footprint` meets its contract: the footprint of the place that `through_view` ensures. Assumes nothing.
+use Rattle.sampling.proofs.Footprints.{placed-on, placed-nowhere}
 use borrow.Author.Needs.{needs}
 use Rattle.sampling.proofs.source_footprint.Statement.{statement}
 use Rattle.sampling.proofs.source_footprint.Tie as tie

@@ -1,7 +1,7 @@
 -- `through_camera` meets its contract: its tests are the camera's, in the same order. Assumes nothing.
 use mathlib.Core.Path.{sym, _∙_}
 use Rattle.prelude.proofs.Tests.{failed, passed}
-use Rattle.sampling.proofs.Spots.{lost-x, lost-y, same-place, carried-place}
+use Rattle.sampling.proofs.Footprints.{lost-x, lost-y, same-place, carried-place}
 use borrow.Author.Needs.{needs}
 use Rattle.sampling.proofs.through_camera.Statement.{statement}
 use Rattle.sampling.proofs.through_camera.Tie as tie

@@ -1,5 +1,5 @@
 -- `through_view` meets its contract: a case for each view. Assumes nothing.
-use Rattle.sampling.proofs.Spots.{plain-place, camera-place}
+use Rattle.sampling.proofs.Footprints.{plain-place, camera-place}
 use borrow.Author.Needs.{needs}
 use Rattle.sampling.proofs.through_view.Statement.{statement}
 use Rattle.sampling.proofs.through_view.Tie as tie

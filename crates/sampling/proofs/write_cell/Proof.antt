@@ -1,5 +1,5 @@
 -- `write_cell` meets its contract: each place is at most the last, which the buffer reaches. Assumes nothing.
-use Rattle.sampling.proofs.Shades.{cell-places}
+use Rattle.sampling.proofs.Interpolation.{cell-places}
 use Rattle.sampling.specs.Marks.{written}
 use lib.ListN.{length-set}
 use native.Mathlib.Omega.{arith}

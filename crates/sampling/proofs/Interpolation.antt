@@ -1,4 +1,4 @@
--- What a sample shows, marks and copies: where four pixels lie in a buffer that reaches the last of them, and each case of a spot. And two photographs that agree on
+-- What a sample shows, marks and copies: where four pixels lie in a buffer that reaches the last of them, and each case of a footprint. And two photographs that agree on
 -- what a sample reads: it shows nothing but those bytes. Assumes nothing.
 use mathlib.Core.Path.{_≡_, refl, sym, ap, _∙_}
 use Prim.Native.Nat.{ℕ, _+_, _*_, _≤_, _<_}
@@ -43,26 +43,26 @@ module _ (w x0 y0 x1 y1 : ℕ) (v : CellBytes) (s c : List ℕ) {i : ℕ} (last 
   unfolding cellMarked
   both-reach hs hc es ec = rw (← last, lt-ltb i (length s) hs, lt-ltb i (length c) hc, es, ec, cellMarked)
 
--- ---- a sample by its spot
+-- ---- a sample by its footprint
 
-pub shade-among : (p : Photo) {at : Footprint} (x0 y0 x1 y1 : ℕ) (fx fy : Float) → at ≡ Cell x0 y0 x1 y1 fx fy → {v : CellBytes} → v ≡ cellOf p x0 y0 x1 y1 → {b : Float}
+pub interpolate-cell : (p : Photo) {at : Footprint} (x0 y0 x1 y1 : ℕ) (fx fy : Float) → at ≡ Cell x0 y0 x1 y1 fx fy → {v : CellBytes} → v ≡ cellOf p x0 y0 x1 y1 → {b : Float}
     → b ≡ bilinear (v .v00) (v .v10) (v .v01) (v .v11) fx fy → Luma b ≡ interpolate p at
 unfolding interpolate
-shade-among p x0 y0 x1 y1 fx fy e hv hb = rw (e, hb, hv)
+interpolate-cell p x0 y0 x1 y1 fx fy e hv hb = rw (e, hb, hv)
 
 module _ (p : Photo) (w : ℕ) (b : Buffers) {at : Footprint} where
-  pub shows-off : at ≡ Rejected → ReadsSample p w at Outside b b
+  pub reads-rejected : at ≡ Rejected → ReadsSample p w at Outside b b
   unfolding interpolate marked
-  shows-off e = rw e (record { answer = refl; marks = refl })
+  reads-rejected e = rw e (record { answer = refl; marks = refl })
 
-  pub shows-edging : {v : ℕ} → at ≡ Border v → ReadsSample p w at (Luma (float v)) b b
+  pub reads-border : {v : ℕ} → at ≡ Border v → ReadsSample p w at (Luma (float v)) b b
   unfolding interpolate marked
-  shows-edging e = rw e (record { answer = refl; marks = refl })
+  reads-border e = rw e (record { answer = refl; marks = refl })
 
-  pub shows-among : (x0 y0 x1 y1 : ℕ) (fx fy : Float) → at ≡ Cell x0 y0 x1 y1 fx fy → {v : CellBytes} → v ≡ cellOf p x0 y0 x1 y1 → {b′ : Buffers} → b′ ≡ cellMarked w x0 y0 x1 y1 v b
+  pub reads-cell : (x0 y0 x1 y1 : ℕ) (fx fy : Float) → at ≡ Cell x0 y0 x1 y1 fx fy → {v : CellBytes} → v ≡ cellOf p x0 y0 x1 y1 → {b′ : Buffers} → b′ ≡ cellMarked w x0 y0 x1 y1 v b
       → {l : Float} → l ≡ bilinear (v .v00) (v .v10) (v .v01) (v .v11) fx fy → ReadsSample p w at (Luma l) b b′
   unfolding marked
-  shows-among x0 y0 x1 y1 fx fy e {v} hv hb hl = record { answer = shade-among p x0 y0 x1 y1 fx fy e hv hl; marks = rw (e, ← hv) hb }
+  reads-cell x0 y0 x1 y1 fx fy e {v} hv hb hl = record { answer = interpolate-cell p x0 y0 x1 y1 fx fy e hv hl; marks = rw (e, ← hv) hb }
 
 -- ---- two photographs
 
@@ -70,8 +70,8 @@ abbrev pub Same : Photo → Photo → Pixel → Type 0
 Same p q c = q (c .column) (c .row) ≡ p (c .column) (c .row)
 
 -- that agree on what a sample reads show the same there
-pub shade-same : (p q : Photo) (at : Footprint) → Each (Same p q) (pixelsRead at) → interpolate q at ≡ interpolate p at
+pub interpolate-same : (p q : Photo) (at : Footprint) → Each (Same p q) (pixelsRead at) → interpolate q at ≡ interpolate p at
 unfolding interpolate pixelsRead
-shade-same p q Rejected h = refl
-shade-same p q (Border v) h = refl
-shade-same p q (Cell x0 y0 x1 y1 fx fy) h = rw (h .0, h .1 .0, h .1 .1 .0, h .1 .1 .1 .0)
+interpolate-same p q Rejected h = refl
+interpolate-same p q (Border v) h = refl
+interpolate-same p q (Cell x0 y0 x1 y1 fx fy) h = rw (h .0, h .1 .0, h .1 .1 .0, h .1 .1 .1 .0)

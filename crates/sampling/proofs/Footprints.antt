@@ -74,16 +74,16 @@ module _ (w h : ℕ) (wide : w < 2 ^ 32) (high : h < 2 ^ 32) (x y : Float) where
   inside-below e {l} hl f g {k} hk = ap (λ (n : ℕ). y ≼ float n) hk ∙ sym (rw (e, sym (ap (λ (n : ℕ). x ≼ float n) hl) ∙ f, g)) ∙ inside-is
 
 module _ (w h : ℕ) (x y : Float) where
-  pub clamped-spot : (b : BorderMode) → b ≡ Clamp → {l : ℕ} → l ≡ w - 1 → {u : Float} → u ≡ clamped x (float l) → {k : ℕ} → k ≡ h - 1 → {v : Float} → v ≡ clamped y (float k) → {s : Footprint}
+  pub clamped-footprint : (b : BorderMode) → b ≡ Clamp → {l : ℕ} → l ≡ w - 1 → {u : Float} → u ≡ clamped x (float l) → {k : ℕ} → k ≡ h - 1 → {v : Float} → v ≡ clamped y (float k) → {s : Footprint}
       → s ≡ interiorCell w h u v → s ≡ atBorder w h b x y
   unfolding atBorder
-  clamped-spot b hb {l} hl {u} hu {k} hk {v} hv {s} hs =
+  clamped-footprint b hb {l} hl {u} hu {k} hk {v} hv {s} hs =
       hs
       ∙ ap (λ (a : Float). interiorCell w h a v) (hu ∙ ap (λ (n : ℕ). clamped x (float n)) hl)
       ∙ ap (λ (a : Float). interiorCell w h (clamped x (float (w - 1))) a) (hv ∙ ap (λ (n : ℕ). clamped y (float n)) hk)
       ∙ ap (λ (m : BorderMode). atBorder w h m x y) (sym hb)
 
--- ---- the spot
+-- ---- the footprint
 
 -- two finite coordinates that are not inside are outside
 else-outside : (a b c : Bool) → a ≡ true → b ≡ true → (a && b && not c) ≡ false → c ≡ true
@@ -124,10 +124,10 @@ module _ (w h : ℕ) (x y : Float) where
 
 -- ---- the place through a camera
 
--- a place that is not finite has no spot
-if-finite-spot : (w h : ℕ) (q : SourcePixel) → pointFootprint w h (At q) ≡ pointFootprint w h (ifFinite q)
+-- a place that is not finite has no footprint
+if-finite-footprint : (w h : ℕ) (q : SourcePixel) → pointFootprint w h (At q) ≡ pointFootprint w h (ifFinite q)
 unfolding pointFootprint ifFinite
-if-finite-spot w h q = go (isFinite (q .0)) refl (isFinite (q .1)) refl
+if-finite-footprint w h q = go (isFinite (q .0)) refl (isFinite (q .1)) refl
   where
     go : (a : Bool) → isFinite (q .0) ≡ a → (b : Bool) → isFinite (q .1) ≡ b → footprint w h Reject (q .0) (q .1) ≡ pointFootprint w h (if a && b then At q else Nowhere)
     go true ea true eb = refl
@@ -150,9 +150,9 @@ module _ (c : CameraCalibration) (p : SourcePixel) where
   pub carried-place : {q : SourcePixel} → isFinite (p .0) ≡ true → isFinite (p .1) ≡ true → isIdentity c ≡ false → q ≡ projected c p
       → (w h : ℕ) → pointFootprint w h (At q) ≡ pointFootprint w h (rectifiedToSource c p)
   unfolding rectifiedToSource
-  carried-place {q} e f i at w h = rw (e, f, i, rectifiedToSource, sym at) (if-finite-spot w h q)
+  carried-place {q} e f i at w h = rw (e, f, i, rectifiedToSource, sym at) (if-finite-footprint w h q)
 
--- ---- the spot in a scene
+-- ---- the footprint in a scene
 
 module _ (v : View) (p : SourcePixel) where
   pub plain-place : v ≡ Plain → (w h : ℕ) → pointFootprint w h (At p) ≡ viewedFootprint w h v p
