@@ -3,8 +3,8 @@ use Prim.Native.Nat.{ℕ}
 use mathlib.Core.Bool.{Bool}
 use lib.Ieee.{Float}
 use Rattle.pixel.specs.Pixels.{source, direction}
-use Rattle.sampling.specs.declared.View.{View}
-use Rattle.sampling.specs.declared.Scene.{Scene}
+use Rattle.footprint.specs.declared.View.{View}
+use Rattle.footprint.specs.declared.Scene.{Scene}
 use Rattle.profile.specs.declared.Ray.{Ray}
 
 -- how a photograph lies

@@ -4,7 +4,7 @@ ghost use mathlib.Core.Path.{_≡_};
 ghost use lib.ListN.{set};
 ghost use Rattle.pixel.specs.Pixels.{source};
 ghost use Rattle.sampling.specs.Sampling.{sampleBilinear};
-ghost use Rattle.sampling.specs.declared.View.the-variants.{Plain};
+ghost use Rattle.footprint.specs.declared.View.the-variants.{Plain};
 ghost use Rattle.camera.specs.Camera.{cameraAnswer};
 ghost use Rattle.homography.specs.Homography.{squareToQuad, quadToQuad, mapAnswer, mapPoint, scaled as scaledBy, inverse as inverseOf, composed};
 ghost use Rattle.line.specs.Line.{fitLine, lineAnswer, crossing, crossAnswer};
@@ -16,8 +16,8 @@ use homography::PerspectiveTransform;
 use pixel::Direction;
 use pixel::SourcePixel;
 use profile::Ray;
-use sampling::Scene;
-use sampling::View;
+use footprint::Scene;
+use footprint::View;
 
 // ---- sampling.rs
 

@@ -16,10 +16,10 @@ use Rattle.camera.specs.declared.CameraIntrinsics.{CameraIntrinsics}
 use Rattle.camera.specs.declared.LensDistortion.{LensDistortion}
 use Rattle.camera.specs.declared.LensDistortion.the-variants.{None, BrownConrady}
 use Rattle.camera.specs.declared.CameraCalibration.{CameraCalibration}
-use Rattle.sampling.specs.declared.View.{View}
-use Rattle.sampling.specs.declared.View.the-variants.{Calibrated}
-use Rattle.sampling.specs.declared.BorderMode.{BorderMode}
-use Rattle.sampling.specs.declared.BorderMode.the-variants.{Reject, Clamp, Constant}
+use Rattle.footprint.specs.declared.View.{View}
+use Rattle.footprint.specs.declared.View.the-variants.{Calibrated}
+use Rattle.footprint.specs.declared.BorderMode.{BorderMode}
+use Rattle.footprint.specs.declared.BorderMode.the-variants.{Reject, Clamp, Constant}
 
 abbrev pub floatAt : List Float → ℕ → Float
 floatAt s i = getD s i nan

@@ -9,8 +9,8 @@ use line::Line2;
 use pixel::Direction;
 use pixel::SourcePixel;
 use pixel::WorkingPixel;
-use sampling::BorderMode;
-use sampling::View;
+use footprint::BorderMode;
+use footprint::View;
 
 // The number at an index of a list; past the list's end a NaN, which a call treats as any other NaN.
 pub fn float_at(s: &[f64], i: usize) -> f64

@@ -4,7 +4,7 @@ ghost use mathlib.Core.List.{[]};
 ghost use Prim.Native.Nat.{_≤_};
 ghost use lib.ListN.{length};
 ghost use Rattle.consts.specs.Consts.{maxEdgePoints};
-ghost use Rattle.sampling.specs.Photographs.{photo};
+ghost use Rattle.photograph.specs.Photographs.{photo};
 ghost use Rattle.sample_tree.specs.Run.{state, sampler, Runs};
 ghost use Rattle.grid.specs.Probes.{held};
 ghost use Rattle.edge.specs.Edge.{pointOnSide, probeRay, localizeProbe, points, fitted, edgeLength, edge as edgeOf};
@@ -22,7 +22,7 @@ use pixel::SourcePixel;
 use profile::Localized;
 use profile::Ray;
 use sample_tree::Meter;
-use sampling::Scene;
+use footprint::Scene;
 
 // What a refinement goes by: the settings, and the label's side in modules and its polarity.
 pub struct Plan {

@@ -5,7 +5,7 @@ use mathlib.Core.Bool.{Bool}
 use mathlib.Core.List.{List}
 use lib.Ieee.{Float}
 use Rattle.consts.specs.Consts.{defaults}
-use Rattle.sampling.specs.declared.View.{View}
+use Rattle.footprint.specs.declared.View.{View}
 use Rattle.refine.specs.declared.Request.{Request}
 use Rattle.refine.specs.Refine.{Photograph}
 use Rattle.marking.specs.Marking.{refineMarking, sheetAfter, copyAfter}

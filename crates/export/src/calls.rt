@@ -1,11 +1,11 @@
 // The refinement calls over the photograph as it is.
 ghost use mathlib.Core.Path.{_≡_};
-ghost use Rattle.sampling.specs.declared.View.the-variants.{Plain};
+ghost use Rattle.footprint.specs.declared.View.the-variants.{Plain};
 ghost use Rattle.refine.specs.Refine.{photograph, refine};
 ghost use Rattle.c_answers.specs.Answers.{Written};
 ghost use Rattle.export.specs.Calls.{lentRequest, WrittenMarked};
 use refine::Request;
-use sampling::View;
+use footprint::View;
 
 // What is asked by what is lent.
 pub(crate) fn request_of(

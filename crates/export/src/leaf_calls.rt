@@ -5,7 +5,7 @@ ghost use lib.Ieee.{binary64};
 ghost use Rattle.ieee_root.specs.Root.{root};
 ghost use Rattle.pixel.specs.Pixels.{source};
 ghost use Rattle.sampling.specs.Sampling.{sampleBilinear};
-ghost use Rattle.sampling.specs.declared.View.the-variants.{Plain};
+ghost use Rattle.footprint.specs.declared.View.the-variants.{Plain};
 ghost use Rattle.camera.specs.Camera.{cameraAnswer};
 ghost use Rattle.homography.specs.Homography.{squareToQuad, quadToQuad, mapAnswer, mapPoint, scaled, inverse, composed};
 ghost use Rattle.line.specs.Line.{fitLine, lineAnswer, crossing, crossAnswer};

@@ -10,8 +10,8 @@ use Rattle.pixel.specs.declared.WorkingPixel.{WorkingPixel}
 use Rattle.camera.specs.declared.CameraIntrinsics.{CameraIntrinsics}
 use Rattle.camera.specs.declared.LensDistortion.{LensDistortion}
 use Rattle.camera.specs.declared.LensDistortion.the-variants.{None, BrownConrady}
-use Rattle.sampling.specs.declared.View.{View}
-use Rattle.sampling.specs.declared.View.the-variants.{Plain, Calibrated}
+use Rattle.footprint.specs.declared.View.{View}
+use Rattle.footprint.specs.declared.View.the-variants.{Plain, Calibrated}
 use Rattle.refine.specs.declared.Request.{Request}
 use Rattle.refine.specs.Refine.{Photograph}
 use Rattle.fields.specs.Fields.{byteAt, numberAt, floatAt}

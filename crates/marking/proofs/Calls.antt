@@ -6,9 +6,9 @@ use mathlib.Core.List.{List, _++_}
 use lib.ListN.{length, drop, replicate}
 use borrow.Author.Tests.{eq-eqb, ne-eqb}
 use Rattle.number.specs.Numbers as number
-use Rattle.sampling.specs.Photographs.{Photo, goodSize}
-use Rattle.sampling.specs.declared.Scene.{Scene}
-use Rattle.sampling.proofs.Inside.{size-checked}
+use Rattle.photograph.specs.Photographs.{Photo, goodSize}
+use Rattle.footprint.specs.declared.Scene.{Scene}
+use Rattle.photograph.proofs.Sizes.{size-checked}
 use Rattle.sample_tree.specs.declared.Meter.{Meter}
 use Rattle.sample_tree.specs.SampleTree.{SampleTree}
 use Rattle.sample_tree.specs.Run.{Ran, ran, run, State, state, sampler, Runs}

@@ -12,10 +12,10 @@ use lib.ListN.{length, getD, take, drop}
 use lib.Seq.{getD-take, take-at, drop-at}
 use Rattle.prelude.specs.Prelude.{if_then_else_, bit}
 use Rattle.number.specs.Numbers as number
-use Rattle.sampling.specs.Photographs.{Photo, pixel}
+use Rattle.photograph.specs.Photographs.{Photo, pixel}
 use Rattle.pixel.proofs.Places.{place-lt}
-use Rattle.sampling.proofs.Pixels.{Inside}
-use Rattle.sampling.proofs.Inside.{Sized, size-checked}
+use Rattle.photograph.proofs.Pixels.{Inside}
+use Rattle.photograph.proofs.Sizes.{Sized, size-checked}
 use Rattle.sample_tree.specs.SampleTree.{SampleTree, value}
 use Rattle.sample_tree.specs.Sheets.{isRead, sheet, copy}
 use Rattle.sample_tree.proofs.Inside.{reads-inside}

@@ -12,8 +12,8 @@ use Rattle.prelude.specs.Checks.{check}
 use Rattle.prelude.proofs.Tests.{both}
 use Rattle.prelude.specs.Prelude.{if_then_else_}
 use Rattle.number.specs.Numbers as number
-use Rattle.sampling.specs.Photographs.{goodPhotograph}
-use Rattle.sampling.proofs.Inside.{Sized}
+use Rattle.photograph.specs.Photographs.{goodPhotograph}
+use Rattle.photograph.proofs.Sizes.{Sized}
 use Rattle.refine.specs.declared.Request.{Request}
 use Rattle.refine.specs.Refine.{Photograph, entryChecks, entry}
 use Rattle.marking.specs.Marking.{area, markingEntry}

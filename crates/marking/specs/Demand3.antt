@@ -8,7 +8,7 @@ use mathlib.Core.List.{List}
 use lib.ListN.{length, getD, take, drop}
 use Rattle.prelude.specs.Prelude.{if_then_else_, bit}
 use Rattle.number.specs.Numbers as number
-use Rattle.sampling.specs.Photographs.{Pixel}
+use Rattle.photograph.specs.Photographs.{Pixel}
 use Rattle.sample_tree.specs.Sheets.{isRead}
 use Rattle.corners.specs.declared.Answer.{Answer}
 use Rattle.refine.specs.declared.Request.{Request}

@@ -8,8 +8,8 @@ use lib.ListN.{length, drop}
 use Rattle.prelude.specs.Checks.{check, first}
 use Rattle.prelude.specs.Prelude.{if_then_else_}
 use Rattle.number.specs.Numbers as number
-use Rattle.sampling.specs.Photographs.{Photo, goodSize}
-use Rattle.sampling.specs.declared.Scene.{Scene}
+use Rattle.photograph.specs.Photographs.{Photo, goodSize}
+use Rattle.footprint.specs.declared.Scene.{Scene}
 use Rattle.sample_tree.specs.SampleTree.{SampleTree, value, reads}
 use Rattle.sample_tree.specs.Sheets as Sheets
 use Rattle.corners.specs.declared.Answer.{Answer}

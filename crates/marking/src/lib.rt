@@ -1,5 +1,5 @@
 // The marking calls: a refinement that also writes which pixels it read, and a copy of the photograph with all others blanked.
-ghost use Rattle.sampling.specs.Photographs.{photo};
+ghost use Rattle.photograph.specs.Photographs.{photo};
 ghost use Rattle.refine.specs.Refine.{photograph, plain, refinement, sceneOf};
 ghost use Rattle.marking.specs.Marking.{Marks, Ready, RunsMarked};
 use corners::Answer;

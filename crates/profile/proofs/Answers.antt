@@ -11,9 +11,9 @@ use Rattle.number.specs.Numbers as number
 use Rattle.prelude.specs.Checks.{Check, check}
 use Rattle.consts.specs.Consts.{defaults}
 use Rattle.consts.specs.declared.Settings.{Settings}
-use Rattle.sampling.specs.Photographs.{photo, photographChecks, photographNumber}
-use Rattle.sampling.specs.Sampling.{goodView}
-use Rattle.sampling.specs.declared.Scene.{Scene}
+use Rattle.photograph.specs.Photographs.{photo, photographChecks, photographNumber}
+use Rattle.footprint.specs.Footprints.{goodView}
+use Rattle.footprint.specs.declared.Scene.{Scene}
 use Rattle.sample_tree.specs.SampleTree.{value}
 use Rattle.peak.specs.declared.Located.{Located}
 use Rattle.profile.specs.declared.Ray.{Ray}

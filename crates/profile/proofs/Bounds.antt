@@ -6,8 +6,8 @@ use mathlib.Core.List.{List, [], _∷_, _++_}
 use mathlib.Core.Option.{Option, none, some}
 use lib.Ieee.{Float}
 use Rattle.ieee.specs.Floats.{_⊖_, float, f0, f3}
-use Rattle.sampling.specs.Photographs.{Photo}
-use Rattle.sampling.specs.declared.Scene.{Scene}
+use Rattle.photograph.specs.Photographs.{Photo}
+use Rattle.footprint.specs.declared.Scene.{Scene}
 use Rattle.consts.specs.declared.Settings.{Settings}
 use Rattle.pixel.specs.declared.SourcePixel.{SourcePixel}
 use Rattle.sampling.specs.declared.Sampled.{Sampled}

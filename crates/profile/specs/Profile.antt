@@ -17,10 +17,10 @@ use Rattle.pixel.specs.Pixels.{source, edgePoint}
 use Rattle.pixel.specs.declared.SourcePixel.{SourcePixel}
 use Rattle.pixel.specs.declared.Direction.{Direction}
 use Rattle.pixel.specs.declared.EdgePoint.{EdgePoint}
-use Rattle.sampling.specs.Photographs.{photo, photographChecks}
-use Rattle.sampling.specs.Sampling.{goodView}
+use Rattle.photograph.specs.Photographs.{photo, photographChecks}
+use Rattle.footprint.specs.Footprints.{goodView}
 use Rattle.sampling.specs.declared.Sampled.the-variants.{Luma, Outside}
-use Rattle.sampling.specs.declared.Scene.{Scene}
+use Rattle.footprint.specs.declared.Scene.{Scene}
 use Rattle.sample_tree.specs.SampleTree.{SampleTree, done, sample, value, _>>=_ as _>>=ₗ_}
 use Rattle.peak.specs.Peak.{peak}
 use Rattle.peak.specs.Aitken.{projection, aitken}

@@ -1,7 +1,7 @@
 // refine.rs, `localize_edge_point`: seven samples along a normal, the peak of their gradients, three
 // passes, and where those tend.
 ghost use mathlib.Core.Path.{_≡_};
-ghost use Rattle.sampling.specs.Photographs.{photo};
+ghost use Rattle.photograph.specs.Photographs.{photo};
 ghost use Rattle.sample_tree.specs.Run.{state, sampler, Runs};
 ghost use Rattle.profile.specs.Profile.{localize as localized, localizeEdgePoint, noPoint, offsetAlong, viewNumber};
 use consts::Settings;
@@ -12,7 +12,7 @@ use pixel::EdgePoint;
 use pixel::SourcePixel;
 use sample_tree::Meter;
 use sampling::Sampled;
-use sampling::Scene;
+use footprint::Scene;
 
 // Passes of a point: the Aitken step is derived for exactly three.
 const PASSES: usize = 3;
@@ -126,7 +126,7 @@ pub fn localize(
 fn view_number(bytes: &[u8], stride: u32, scene: Scene) -> u32
     ensures { λ r. ⌜ r ≡ viewNumber (now (bytes .entry)) stride scene ⌝ }
 {
-    let refusal = sampling::photograph_number(scene.width, scene.height, stride, bytes.len());
+    let refusal = photograph::photograph_number(scene.width, scene.height, stride, bytes.len());
     if refusal != number::ANSWER {
         return refusal;
     }

@@ -10,7 +10,7 @@ use lib.ListN.{length, take}
 use lib.Seq.{take-all}
 use borrow.Author.Tests.{eq-eqb, ne-eqb}
 use Rattle.pixel.specs.declared.SourcePixel.{SourcePixel}
-use Rattle.sampling.specs.Photographs.{photo}
+use Rattle.photograph.specs.Photographs.{photo}
 use Rattle.sample_tree.specs.Run.{State, sampler, Runs}
 use Rattle.sample_tree.proofs.Meaning.{ran-value}
 use Rattle.edge.specs.declared.Task.{Task}

@@ -8,7 +8,7 @@ use Rattle.prelude.proofs.Tests.{both}
 use Rattle.prelude.proofs.Checks.{zero-exactly, refused-before, all-zero}
 use Rattle.prelude.specs.Checks.{first}
 use Rattle.number.specs.Numbers as number
-use Rattle.sampling.specs.Photographs.{goodSize, goodPhotograph, photographChecks, photographNumber}
+use Rattle.photograph.specs.Photographs.{goodSize, goodPhotograph, photographChecks, photographNumber}
 use Rattle.refine.specs.declared.Request.{Request}
 use Rattle.refine.specs.Refine.{Photograph, entryChecks, entry}
 

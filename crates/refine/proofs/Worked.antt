@@ -12,6 +12,8 @@ use Rattle.number.specs.Numbers as number
 use Rattle.ieee.proofs.Opened as Ieee
 use Rattle.ieee_root.proofs.Opened as Root
 use Rattle.pixel.proofs.Opened as Pixel
+use Rattle.photograph.proofs.Opened as Photograph
+use Rattle.footprint.proofs.Opened as Footprint
 use Rattle.sampling.proofs.Opened as Sampling
 use Rattle.sample_tree.proofs.Opened as SampleTree
 use Rattle.homography.proofs.Opened as Homography
@@ -34,9 +36,9 @@ use Rattle.homography.specs.Homography.{squareToQuad, mapPoint, mapAnswer}
 use Rattle.line.specs.declared.Line2.{Line2}
 use Rattle.line.specs.declared.CrossAnswer.{CrossAnswer}
 use Rattle.line.specs.Line.{line, crossing, crossAnswer}
-use Rattle.sampling.specs.declared.BorderMode.the-variants.{Reject}
+use Rattle.footprint.specs.declared.BorderMode.the-variants.{Reject}
 use Rattle.sampling.specs.declared.LumaAnswer.{LumaAnswer}
-use Rattle.sampling.specs.declared.View.the-variants.{Plain}
+use Rattle.footprint.specs.declared.View.the-variants.{Plain}
 use Rattle.sampling.specs.Sampling.{sampleBilinear}
 use Rattle.peak.specs.Aitken.{aitken}
 use Rattle.profile.specs.declared.Ray.{Ray}
@@ -154,7 +156,7 @@ right (c ∷ cs) = eqb (outcome (c .0) .number) (c .1 .number) && sameValues (ou
 
 pub worked : T (right cases)
 unfolding right sameValues cases outcome only rightwards ofPoint ofSample ofMap ofCrossing allDark quarters toBits
-    Ieee.opened Root.opened Sampling.opened Homography.opened Line.opened Peak.opened Profile.opened Grids.opened
+    Ieee.opened Root.opened Photograph.opened Footprint.opened Sampling.opened Homography.opened Line.opened Peak.opened Profile.opened Grids.opened
 worked = tt
 
 -- ---- the grey photograph
@@ -180,6 +182,6 @@ grey-photograph = record { bytes = replicate 16 128; stride = 4 }
 
 pub grey-is-thin : T (eqb (refine grey (1 ∷ 1 ∷ 1 ∷ 1 ∷ []) grey-photograph .number) 9)
 unfolding grey grey-photograph at
-    Ieee.opened Root.opened Pixel.opened Sampling.opened SampleTree.opened Homography.opened Line.opened Fit.opened
+    Ieee.opened Root.opened Pixel.opened Photograph.opened Footprint.opened Sampling.opened SampleTree.opened Homography.opened Line.opened Fit.opened
     Peak.opened Profile.opened Grids.opened Edge.opened Corners.opened Rounds.opened Refine.opened
 grey-is-thin = tt

@@ -13,10 +13,10 @@ use Rattle.ieee.specs.Parts.{isFinite, magnitude}
 use Rattle.ieee.specs.Floats.{_≺_, f0, f2^20}
 use Rattle.pixel.specs.Pixels.{toSource}
 use Rattle.pixel.specs.declared.SourcePixel.{SourcePixel}
-use Rattle.sampling.specs.Photographs.{Photo, photo, Pixel, photographChecks}
-use Rattle.sampling.specs.declared.View.the-variants.{Plain}
-use Rattle.sampling.specs.declared.Scene.{Scene}
-use Rattle.sampling.specs.Sampling.{goodView}
+use Rattle.photograph.specs.Photographs.{Photo, photo, Pixel, photographChecks}
+use Rattle.footprint.specs.declared.View.the-variants.{Plain}
+use Rattle.footprint.specs.declared.Scene.{Scene}
+use Rattle.footprint.specs.Footprints.{goodView}
 use Rattle.sample_tree.specs.SampleTree.{SampleTree, value, reads}
 use Rattle.grid.specs.Grids.{gridOf, goodGrid}
 use Rattle.edge.specs.declared.Plan.{Plan}

@@ -15,7 +15,7 @@ use crate::Request;
 use edge::Plan;
 use edge::Task;
 use pixel::SourcePixel;
-use sampling::Scene;
+use footprint::Scene;
 
 // How far from the origin a source corner may lie: 64 times the widest photograph.
 const MAX_COORDINATE: f64 = 1048576.0;
@@ -93,7 +93,7 @@ fn all_within_bounds(corners: [SourcePixel; 4]) -> bool
 pub fn entry_number(bytes: &[u8], stride: u32, modules: &[u8], request: Request) -> u32
     ensures { λ r. ⌜ r ≡ entry request (now (modules .entry)) (photograph (now (bytes .entry)) stride) ⌝ }
 {
-    let refusal = sampling::photograph_number(request.width, request.height, stride, bytes.len());
+    let refusal = photograph::photograph_number(request.width, request.height, stride, bytes.len());
     if refusal != number::ANSWER {
         return refusal;
     }

@@ -1,6 +1,6 @@
 // refine.rs, `refine_corners` and `refine_corners_mapped`: the entry checks, and the rounds behind them.
 ghost use mathlib.Core.Path.{_≡_};
-ghost use Rattle.sampling.specs.Photographs.{photo};
+ghost use Rattle.photograph.specs.Photographs.{photo};
 ghost use Rattle.sample_tree.specs.Run.{state, sampler, Runs};
 ghost use Rattle.refine.specs.Refine.{photograph, plain, refine, refinement, sceneOf};
 use consts::Settings;
@@ -8,7 +8,7 @@ use corners::Answer;
 use pixel::WorkingPixel;
 use rounds::RoundResult;
 use sample_tree::Meter;
-use sampling::View;
+use footprint::View;
 
 mod entry; // entry.rt: the entry checks
 

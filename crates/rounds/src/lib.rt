@@ -1,7 +1,7 @@
 // refine.rs, `refine_round` and the rounds of `refine_corners`.
 ghost use mathlib.Core.Path.{_≡_};
 ghost use Prim.Native.Nat.{_-_, _<_};
-ghost use Rattle.sampling.specs.Photographs.{photo};
+ghost use Rattle.photograph.specs.Photographs.{photo};
 ghost use Rattle.sample_tree.specs.Run.{state, sampler, Runs};
 ghost use Rattle.corners.specs.Corners.{noEdges};
 ghost use Rattle.rounds.specs.Rounds.{edgesFrom, remainingRounds, isWeak, round, rounds, sideOf};

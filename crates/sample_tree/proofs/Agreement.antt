@@ -6,10 +6,11 @@ use mathlib.Core.Path.{_≡_, refl, ap, _∙_}
 use Prim.Native.Nat.{suc}
 use mathlib.Core.List.{List, _++_}
 use Rattle.prelude.proofs.Lists.{Each, each-both}
-use Rattle.sampling.specs.Photographs.{Photo, Pixel}
-use Rattle.sampling.specs.declared.Scene.{Scene}
+use Rattle.photograph.specs.Photographs.{Photo, Pixel}
+use Rattle.footprint.specs.declared.Scene.{Scene}
 use Rattle.sampling.specs.declared.Sampled.{Sampled}
-use Rattle.sampling.specs.Sampling.{sceneFootprint, pixelsRead, interpolate}
+use Rattle.footprint.specs.Footprints.{sceneFootprint}
+use Rattle.sampling.specs.Sampling.{pixelsRead, interpolate}
 use Rattle.sampling.proofs.Interpolation.{Same, interpolate-same}
 use Rattle.sample_tree.specs.SampleTree.{SampleTree, done, sample, value, reads, sampleCount}
 

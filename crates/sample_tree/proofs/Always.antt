@@ -1,10 +1,11 @@
 -- What holds of everything that a step can end in, whatever its samples show: so it holds of the step's value over any photograph, and of a bound
 -- step where the second has it for whatever the first can end in. Each by induction on the step. Assumes nothing.
 use Rattle.pixel.specs.declared.SourcePixel.{SourcePixel}
-use Rattle.sampling.specs.Photographs.{Photo}
-use Rattle.sampling.specs.declared.Scene.{Scene}
+use Rattle.photograph.specs.Photographs.{Photo}
+use Rattle.footprint.specs.declared.Scene.{Scene}
 use Rattle.sampling.specs.declared.Sampled.{Sampled}
-use Rattle.sampling.specs.Sampling.{sceneFootprint, interpolate}
+use Rattle.footprint.specs.Footprints.{sceneFootprint}
+use Rattle.sampling.specs.Sampling.{interpolate}
 use Rattle.sample_tree.specs.SampleTree.{SampleTree, done, sample, _>>=_, value}
 
 pub data Always {A : Type 0} (P : A → Type 0) : SampleTree A → Type 0 where

@@ -3,10 +3,11 @@
 use mathlib.Core.Path.{_≡_, sym, ap, _∙_, subst}
 use Prim.Native.Nat.{ℕ, zero, suc, _+_, _≤_, zero-le, suc-le-suc}
 use native.Mathlib.Nat.{suc-add, add-suc}
-use Rattle.sampling.specs.Photographs.{Photo}
-use Rattle.sampling.specs.declared.Scene.{Scene}
+use Rattle.photograph.specs.Photographs.{Photo}
+use Rattle.footprint.specs.declared.Scene.{Scene}
 use Rattle.sampling.specs.declared.Sampled.{Sampled}
-use Rattle.sampling.specs.Sampling.{sceneFootprint, interpolate}
+use Rattle.footprint.specs.Footprints.{sceneFootprint}
+use Rattle.sampling.specs.Sampling.{interpolate}
 use Rattle.sample_tree.specs.declared.Meter.{Meter}
 use Rattle.sample_tree.specs.SampleTree.{SampleTree, done, sample, _>>=_, sampleCount}
 use Rattle.sample_tree.specs.Run.{State, sampler, Runs}

@@ -10,11 +10,11 @@ use mathlib.Core.List.{List, _++_}
 use lib.Dec.{T}
 use lib.ListN.{getD, List·getD-append}
 use Rattle.prelude.specs.Prelude.{if_then_else_, bit}
-use Rattle.sampling.specs.Photographs.{Photo, photo, Pixel}
-use Rattle.sampling.specs.declared.Scene.{Scene}
+use Rattle.photograph.specs.Photographs.{Photo, photo, Pixel}
+use Rattle.footprint.specs.declared.Scene.{Scene}
 use Rattle.pixel.proofs.Places.{place-lt}
 use Rattle.sampling.proofs.Interpolation.{Same}
-use Rattle.sampling.proofs.Inside.{Sized}
+use Rattle.photograph.proofs.Sizes.{Sized}
 use Rattle.sample_tree.specs.SampleTree.{SampleTree, reads}
 use Rattle.sample_tree.specs.Sheets.{isRead, sheet, copy}
 use Rattle.sample_tree.proofs.Agreement.{Alike, alike}

@@ -1,10 +1,12 @@
 -- Every pixel that a step reads lies in the picture: each of its samples reads only such pixels. By induction on the tree. Assumes nothing.
 use Rattle.prelude.proofs.Lists.{Each, each-append}
-use Rattle.sampling.specs.Photographs.{Photo}
-use Rattle.sampling.specs.declared.Scene.{Scene}
-use Rattle.sampling.specs.Sampling.{sceneFootprint, pixelsRead, interpolate}
-use Rattle.sampling.proofs.Pixels.{Inside}
-use Rattle.sampling.proofs.Inside.{Sized, scene-inside}
+use Rattle.photograph.specs.Photographs.{Photo}
+use Rattle.footprint.specs.declared.Scene.{Scene}
+use Rattle.footprint.specs.Footprints.{sceneFootprint}
+use Rattle.sampling.specs.Sampling.{pixelsRead, interpolate}
+use Rattle.photograph.proofs.Pixels.{Inside}
+use Rattle.photograph.proofs.Sizes.{Sized}
+use Rattle.sampling.proofs.Inside.{scene-inside}
 use Rattle.sample_tree.specs.SampleTree.{SampleTree, done, sample, reads}
 
 pub reads-inside : {A : Type 0} (e : Scene) → Sized (e .width) (e .height) → (p : Photo) (t : SampleTree A) → Each (Inside (e .width) (e .height)) (reads e p t)

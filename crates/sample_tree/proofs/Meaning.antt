@@ -10,16 +10,18 @@ use native.Mathlib.Omega.{arith}
 use borrow.Author.Tests.{lt-ltb}
 use Rattle.prelude.proofs.Lists.{Each}
 use Rattle.prelude.specs.Prelude.{if_then_else_}
-use Rattle.sampling.specs.Photographs.{Photo}
-use Rattle.sampling.specs.Sampling.{sceneFootprint, cellOf, pixelsRead, interpolate}
+use Rattle.photograph.specs.Photographs.{Photo}
+use Rattle.footprint.specs.Footprints.{sceneFootprint}
+use Rattle.sampling.specs.Sampling.{cellOf, pixelsRead, interpolate}
 use Rattle.sampling.specs.Marks.{Buffers, buffers, written, ones, reach, cellMarked, marked}
 use Rattle.sampling.specs.declared.CellBytes.{CellBytes}
-use Rattle.sampling.specs.declared.Scene.{Scene}
-use Rattle.sampling.specs.declared.Footprint.{Footprint}
-use Rattle.sampling.specs.declared.Footprint.the-variants.{Rejected, Border, Cell}
+use Rattle.footprint.specs.declared.Scene.{Scene}
+use Rattle.footprint.specs.declared.Footprint.{Footprint}
+use Rattle.footprint.specs.declared.Footprint.the-variants.{Rejected, Border, Cell}
 use Rattle.pixel.proofs.Places.{place-lt}
-use Rattle.sampling.proofs.Pixels.{Inside}
-use Rattle.sampling.proofs.Inside.{Sized, scene-inside}
+use Rattle.photograph.proofs.Pixels.{Inside}
+use Rattle.photograph.proofs.Sizes.{Sized}
+use Rattle.sampling.proofs.Inside.{scene-inside}
 use Rattle.sample_tree.specs.declared.Meter.{Meter}
 use Rattle.sample_tree.specs.Meters.{increment, incrementBy}
 use Rattle.sample_tree.specs.SampleTree.{SampleTree, done, sample, value, reads, sampleCount}

@@ -14,9 +14,9 @@ use Rattle.prelude.proofs.Tests.{or-left, or-right, and-both}
 use Rattle.prelude.proofs.Tables.{length-table, getD-table, table-ext}
 use Rattle.prelude.proofs.Lists.{Each}
 use Rattle.prelude.specs.Prelude.{if_then_else_, bit, table}
-use Rattle.sampling.specs.Photographs.{Photo, Pixel, pixel}
+use Rattle.photograph.specs.Photographs.{Photo, Pixel, pixel}
 use Rattle.pixel.proofs.Places.{place-lt}
-use Rattle.sampling.proofs.Pixels.{Inside, place-column, place-row}
+use Rattle.photograph.proofs.Pixels.{Inside, place-column, place-row}
 use Rattle.sample_tree.specs.Sheets.{isRead, sheet, copy}
 
 -- ---- whether a pixel is in a list

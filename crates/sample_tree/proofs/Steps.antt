@@ -1,11 +1,11 @@
 -- How a promise follows the code: a sample is taken or a callee runs a bound step, and what is left of the tree goes on to its end. These laws hold of every sampler. A proof
 -- of a function that samples uses them alone, and never looks at pixels or at what the state holds. Assumes nothing.
 use mathlib.Core.Path.{_≡_, refl, sym, ap, _∙_}
-use Rattle.sampling.specs.Photographs.{Photo}
-use Rattle.sampling.specs.declared.Scene.{Scene}
+use Rattle.photograph.specs.Photographs.{Photo}
+use Rattle.footprint.specs.declared.Scene.{Scene}
 use Rattle.pixel.specs.declared.SourcePixel.{SourcePixel}
 use Rattle.sampling.specs.declared.Sampled.{Sampled}
-use Rattle.sampling.specs.Sampling.{sceneFootprint}
+use Rattle.footprint.specs.Footprints.{sceneFootprint}
 use Rattle.sampling.specs.Marks.{Buffers, ReadsSample}
 use Rattle.sample_tree.specs.declared.Meter.{Meter}
 use Rattle.sample_tree.specs.Meters.{increment}

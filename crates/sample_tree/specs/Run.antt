@@ -4,10 +4,11 @@ use mathlib.Core.Path.{_≡_}
 use Prim.Native.Nat.{ℕ}
 use mathlib.Core.List.{List}
 use Rattle.pixel.specs.declared.SourcePixel.{SourcePixel}
-use Rattle.sampling.specs.Photographs.{Photo}
-use Rattle.sampling.specs.Sampling.{sceneFootprint, interpolate}
+use Rattle.photograph.specs.Photographs.{Photo}
+use Rattle.footprint.specs.Footprints.{sceneFootprint}
+use Rattle.sampling.specs.Sampling.{interpolate}
 use Rattle.sampling.specs.Marks.{Buffers, buffers, marked}
-use Rattle.sampling.specs.declared.Scene.{Scene}
+use Rattle.footprint.specs.declared.Scene.{Scene}
 use Rattle.sampling.specs.declared.Sampled.{Sampled}
 use Rattle.sample_tree.specs.declared.Meter.{Meter}
 use Rattle.sample_tree.specs.Meters.{increment}

@@ -4,10 +4,11 @@
 use Prim.Native.Nat.{ℕ, suc}
 use mathlib.Core.List.{List, [], _++_}
 use Rattle.pixel.specs.declared.SourcePixel.{SourcePixel}
-use Rattle.sampling.specs.Photographs.{Photo, Pixel}
-use Rattle.sampling.specs.declared.Scene.{Scene}
+use Rattle.photograph.specs.Photographs.{Photo, Pixel}
+use Rattle.footprint.specs.declared.Scene.{Scene}
 use Rattle.sampling.specs.declared.Sampled.{Sampled}
-use Rattle.sampling.specs.Sampling.{sceneFootprint, pixelsRead, interpolate}
+use Rattle.footprint.specs.Footprints.{sceneFootprint}
+use Rattle.sampling.specs.Sampling.{pixelsRead, interpolate}
 
 pub data SampleTree (A : Type 0) : Type 0 where
   done : A → SampleTree A

@@ -4,7 +4,7 @@ use mathlib.Core.Bool.{Bool, false, _&&_, _||_}
 use mathlib.Core.List.{List, [], _∷_}
 use lib.Dec.{eqb}
 use Rattle.prelude.specs.Prelude.{if_then_else_, bit, table}
-use Rattle.sampling.specs.Photographs.{Photo, Pixel}
+use Rattle.photograph.specs.Photographs.{Photo, Pixel}
 
 -- whether a pixel is in a list
 abbrev pub isRead : ℕ → ℕ → List Pixel → Bool

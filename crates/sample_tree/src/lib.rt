@@ -1,12 +1,12 @@
 // A sample of the refinement: through the camera, its pixels marked and copied, and counted.
 ghost use mathlib.Core.Path.{_≡_};
-ghost use Rattle.sampling.specs.Photographs.{photo};
+ghost use Rattle.photograph.specs.Photographs.{photo};
 ghost use Rattle.sample_tree.specs.Meters.{increment};
 ghost use Rattle.sample_tree.specs.SampleTree.{oneSample};
 ghost use Rattle.sample_tree.specs.Run.{state, sampler, Runs};
 use pixel::SourcePixel;
 use sampling::Sampled;
-use sampling::Scene;
+use footprint::Scene;
 
 // What sampling carries along: how many samples were tried.
 pub struct Meter {

@@ -6,11 +6,12 @@ use lib.ListN.{length}
 use lib.Ieee.{Float}
 use borrow.Author.Tests.{eq-eqb, ne-eqb}
 use Rattle.ieee.specs.Floats.{f0}
-use Rattle.sampling.specs.Photographs.{photo, photographNumber}
-use Rattle.sampling.specs.declared.BorderMode.{BorderMode}
-use Rattle.sampling.specs.declared.Footprint.{Footprint}
+use Rattle.photograph.specs.Photographs.{photo, photographNumber}
+use Rattle.footprint.specs.declared.BorderMode.{BorderMode}
+use Rattle.footprint.specs.declared.Footprint.{Footprint}
 use Rattle.sampling.specs.declared.Sampled.{Sampled}
-use Rattle.sampling.specs.Sampling.{footprint, interpolate, lumaAnswer, sampleBilinear}
+use Rattle.footprint.specs.Footprints.{footprint}
+use Rattle.sampling.specs.Sampling.{interpolate, lumaAnswer, sampleBilinear}
 
 module _ (bytes : List ℕ) (w h stride : ℕ) (x y : Float) (b : BorderMode) {n : ℕ} (is : n ≡ photographNumber w h stride (length bytes)) where
   pub refused : (n ≡ 0 → ⊥) → record { number = n; luma = f0 } ≡ sampleBilinear bytes w h stride x y b

@@ -12,12 +12,12 @@ use lib.Ieee.{Float}
 use borrow.Author.Tests.{lt-ltb, le-ltb}
 use Rattle.prelude.proofs.Lists.{Each}
 use Rattle.ieee.specs.Floats.{float}
-use Rattle.sampling.specs.Photographs.{Photo, Pixel}
+use Rattle.photograph.specs.Photographs.{Photo, Pixel}
 use Rattle.sampling.specs.declared.CellBytes.{CellBytes}
 use Rattle.sampling.specs.declared.Sampled.{Sampled}
 use Rattle.sampling.specs.declared.Sampled.the-variants.{Luma, Outside}
-use Rattle.sampling.specs.declared.Footprint.{Footprint}
-use Rattle.sampling.specs.declared.Footprint.the-variants.{Rejected, Border, Cell}
+use Rattle.footprint.specs.declared.Footprint.{Footprint}
+use Rattle.footprint.specs.declared.Footprint.the-variants.{Rejected, Border, Cell}
 use Rattle.sampling.specs.Sampling.{cellOf, pixelsRead, bilinear, interpolate}
 use Rattle.sampling.specs.Marks.{Buffers, buffers, written, ones, cellMarked, marked, ReadsSample}
 

@@ -1,6 +1,4 @@
 -- What the proofs of `sampling`, and of the crates above it, share.
-pub mod Footprints
-pub mod Pixels
 pub mod Interpolation
 pub mod Answers
 pub mod Inside

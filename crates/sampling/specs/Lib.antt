@@ -1,4 +1,3 @@
 -- What the contracts of `sampling` cite.
-pub mod Photographs
 pub mod Sampling
 pub mod Marks

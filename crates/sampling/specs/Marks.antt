@@ -6,9 +6,9 @@ use mathlib.Core.List.{List}
 use lib.Dec.{ltb}
 use lib.ListN.{length, set}
 use Rattle.prelude.specs.Prelude.{if_then_else_}
-use Rattle.sampling.specs.Photographs.{Photo}
-use Rattle.sampling.specs.declared.Footprint.{Footprint}
-use Rattle.sampling.specs.declared.Footprint.the-variants.{Rejected, Border, Cell}
+use Rattle.photograph.specs.Photographs.{Photo}
+use Rattle.footprint.specs.declared.Footprint.{Footprint}
+use Rattle.footprint.specs.declared.Footprint.the-variants.{Rejected, Border, Cell}
 use Rattle.sampling.specs.declared.CellBytes.{CellBytes}
 use Rattle.sampling.specs.declared.Sampled.{Sampled}
 use Rattle.sampling.specs.Sampling.{interpolate, cellOf}

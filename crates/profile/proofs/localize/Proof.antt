@@ -7,7 +7,7 @@ use mathlib.Core.List.{[]}
 use native.Mathlib.Omega.{arith}
 use borrow.Author.Needs.{needs}
 use lib.ListN.{length, length-set}
-use Rattle.sampling.specs.Photographs.{photo}
+use Rattle.photograph.specs.Photographs.{photo}
 use Rattle.sample_tree.specs.Run.{state, sampler, Runs}
 use Rattle.sample_tree.proofs.Meaning.{sheet-long, copy-long}
 use Rattle.peak.specs.declared.Located.{Located}

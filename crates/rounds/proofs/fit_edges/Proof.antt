@@ -2,7 +2,7 @@
 use Prim.Native.Nat.{_≤_, _-_}
 use native.Mathlib.Omega.{arith}
 use borrow.Author.Needs.{needs}
-use Rattle.sampling.specs.Photographs.{photo}
+use Rattle.photograph.specs.Photographs.{photo}
 use Rattle.sample_tree.specs.Run.{state, sampler}
 use Rattle.sample_tree.proofs.Meaning.{sheet-long, copy-long}
 use Rattle.rounds.proofs.EdgeByEdge.{Left, none-yet, next-edge, edge-stops, all-fitted}

@@ -3,7 +3,7 @@
 use Prim.Native.Nat.{_-_}
 use native.Mathlib.Omega.{arith}
 use borrow.Author.Needs.{needs}
-use Rattle.sampling.specs.Photographs.{photo}
+use Rattle.photograph.specs.Photographs.{photo}
 use Rattle.sample_tree.specs.Run.{state, sampler}
 use Rattle.sample_tree.proofs.Meaning.{sheet-long, copy-long}
 use Rattle.rounds.proofs.RoundByRound.{Left, first-only, weak-round, round-stops, next-round, all-ran}

@@ -1,7 +1,7 @@
 -- `interpolate_at` meets its contract: a case for each footprint. Assumes nothing.
 use Rattle.sampling.proofs.Interpolation.{interpolate-cell}
 use Rattle.sampling.specs.Sampling.{interpolate, Ordered}
-use Rattle.sampling.specs.declared.Footprint.{Footprint}
+use Rattle.footprint.specs.declared.Footprint.{Footprint}
 use mathlib.Core.Path.{subst}
 use borrow.Author.Needs.{needs}
 use Rattle.sampling.proofs.interpolate_at.Statement.{statement}

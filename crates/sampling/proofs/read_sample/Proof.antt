@@ -1,7 +1,7 @@
 -- `read_sample` meets its contract: a case for each footprint. Assumes nothing.
 use Rattle.sampling.proofs.Interpolation.{reads-rejected, reads-border, reads-cell}
 use Rattle.sampling.specs.Sampling.{Ordered}
-use Rattle.sampling.specs.declared.Footprint.{Footprint}
+use Rattle.footprint.specs.declared.Footprint.{Footprint}
 use mathlib.Core.Path.{subst}
 use borrow.Author.Needs.{needs}
 use Rattle.sampling.proofs.read_sample.Statement.{statement}

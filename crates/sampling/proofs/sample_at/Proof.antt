@@ -1,7 +1,7 @@
 -- `sample_at` meets its contract: the footprint is the scene's, whose fourth pixel is its last. Assumes nothing.
 use Rattle.sampling.proofs.Inside.{scene-ordered}
 use Rattle.sampling.specs.Sampling.{Ordered}
-use Rattle.sampling.specs.declared.Footprint.{Footprint}
+use Rattle.footprint.specs.declared.Footprint.{Footprint}
 use native.Mathlib.Omega.{arith}
 use mathlib.Core.Path.{sym, subst}
 use borrow.Author.Needs.{needs}

@@ -1,7 +1,7 @@
 -- `sample_bilinear` meets its contract: the photograph's number, and then a case for each answer of `interpolate_at`. Assumes nothing.
 use Rattle.sampling.proofs.Answers.{refused, shown}
 use Rattle.sampling.proofs.Inside.{footprint-ordered}
-use Rattle.sampling.specs.declared.Footprint.{Footprint}
+use Rattle.footprint.specs.declared.Footprint.{Footprint}
 use native.Mathlib.Omega.{arith}
 use mathlib.Core.Path.{sym, subst}
 use Rattle.sampling.specs.Sampling.{Ordered, lumaAnswer}

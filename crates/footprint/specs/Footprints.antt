@@ -1,0 +1,63 @@
+-- sampling.rs, `sample_bilinear`, and sample.rs, `SourceView::sample`: where a sample falls, which does not depend on the photograph. Definitions only.
+use Prim.Native.Nat.{ℕ, _+_, _-_, min}
+use mathlib.Core.Bool.{Bool, true, not, _||_}
+use lib.Ieee.{Float}
+use Rattle.prelude.specs.Prelude.{if_then_else_}
+use Rattle.ieee.specs.Parts.{isFinite}
+use Rattle.ieee.specs.Floats.{_⊖_, _≺_, f0, float, wholePart}
+use Rattle.pixel.specs.declared.SourcePixel.{SourcePixel}
+use Rattle.camera.specs.declared.SourcePoint.{SourcePoint}
+use Rattle.camera.specs.declared.SourcePoint.the-variants.{At, Nowhere}
+use Rattle.camera.specs.Camera.{validCamera, rectifiedToSource}
+use Rattle.footprint.specs.declared.BorderMode.{BorderMode}
+use Rattle.footprint.specs.declared.BorderMode.the-variants.{Reject, Clamp, Constant}
+use Rattle.footprint.specs.declared.Footprint.{Footprint}
+use Rattle.footprint.specs.declared.Footprint.the-variants.{Rejected, Border, Cell}
+use Rattle.footprint.specs.declared.View.{View}
+use Rattle.footprint.specs.declared.View.the-variants.{Plain, Calibrated}
+use Rattle.footprint.specs.declared.Scene.{Scene}
+
+-- ---- sampling.rs
+
+-- among four pixels: at the last column the right one is the same, and at the last row the lower one
+unfoldable pub interiorCell : ℕ → ℕ → Float → Float → Footprint
+interiorCell w h x y =
+    let x0 = wholePart x in
+    let y0 = wholePart y in
+    Cell x0 y0 (min (x0 + 1) (w - 1)) (min (y0 + 1) (h - 1)) (x ⊖ float x0) (y ⊖ float y0)
+
+-- Rust's `x.clamp(0.0, most)`
+unfoldable pub clamped : Float → Float → Float
+clamped x most = if x ≺ f0 then f0 else if most ≺ x then most else x
+
+unfoldable pub atBorder : ℕ → ℕ → BorderMode → Float → Float → Footprint
+atBorder w h Reject x y = Rejected
+atBorder w h Clamp x y = interiorCell w h (clamped x (float (w - 1))) (clamped y (float (h - 1)))
+atBorder w h (Constant v) x y = Border v
+
+unfoldable pub outside : ℕ → ℕ → Float → Float → Bool
+outside w h x y = (x ≺ f0) || (y ≺ f0) || (float (w - 1) ≺ x) || (float (h - 1) ≺ y)
+
+-- finiteness comes first, under every border mode
+unfoldable pub footprint : ℕ → ℕ → BorderMode → Float → Float → Footprint
+footprint w h b x y =
+    if not (isFinite x) || not (isFinite y) then Rejected else
+    if outside w h x y then atBorder w h b x y else interiorCell w h x y
+
+-- ---- sample.rs, `SourceView::sample`: through the camera, where there is one, with the border rejected
+
+unfoldable pub pointFootprint : ℕ → ℕ → SourcePoint → Footprint
+pointFootprint w h (At q) = footprint w h Reject (q .0) (q .1)
+pointFootprint w h Nowhere = Rejected
+
+unfoldable pub viewedFootprint : ℕ → ℕ → View → SourcePixel → Footprint
+viewedFootprint w h Plain q = footprint w h Reject (q .0) (q .1)
+viewedFootprint w h (Calibrated c) q = pointFootprint w h (rectifiedToSource c q)
+
+abbrev pub sceneFootprint : Scene → SourcePixel → Footprint
+sceneFootprint s q = viewedFootprint (s .width) (s .height) (s .view) q
+
+-- check 6
+unfoldable pub goodView : View → Bool
+goodView Plain = true
+goodView (Calibrated c) = validCamera c

@@ -1,0 +1,2 @@
+-- What the contracts of `footprint` cite.
+pub mod Footprints

@@ -1,0 +1,2 @@
+-- What the contracts of `photograph` cite.
+pub mod Photographs
