@@ -4,13 +4,13 @@ ghost use Rattle.c_lists.specs.Lent.{floatAt, quadOf, workingOf, mapOf, 
 use camera::CameraCalibration;
 use camera::CameraIntrinsics;
 use camera::LensDistortion;
+use footprint::BorderMode;
+use footprint::View;
 use homography::PerspectiveTransform;
 use line::Line2;
 use pixel::Direction;
 use pixel::SourcePixel;
 use pixel::WorkingPixel;
-use footprint::BorderMode;
-use footprint::View;
 
 // The number at an index of a list; past the list's end a NaN, which a call treats as any other NaN.
 pub fn float_at(s: &[f64], i: usize) -> f64

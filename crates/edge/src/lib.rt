@@ -13,6 +13,7 @@ use consts::MAX_EDGE_POINTS;
 use consts::Settings;
 use fit::EdgeFit;
 use fit::EdgeStat;
+use footprint::Scene;
 use grid::Probe;
 use grid::Probes;
 use homography::PerspectiveTransform;
@@ -22,7 +23,6 @@ use pixel::SourcePixel;
 use profile::Localized;
 use profile::Ray;
 use sample_tree::Meter;
-use footprint::Scene;
 
 // What a refinement goes by: the settings, and the label's side in modules and its polarity.
 pub struct Plan {

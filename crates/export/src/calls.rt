@@ -1,39 +1,11 @@
-// The refinement calls over the photograph as it is.
-ghost use mathlib.Core.Path.{_≡_};
+// The refinement calls: each hands on what the one of its name in `c_refine` gives.
 ghost use Rattle.footprint.specs.declared.View.the-variants.{Plain};
 ghost use Rattle.refine.specs.Refine.{photograph, refine};
+ghost use Rattle.c_lists.specs.Lent.{viewOf};
 ghost use Rattle.c_answers.specs.Answers.{Written};
-ghost use Rattle.export.specs.Calls.{lentRequest, WrittenMarked};
-use refine::Request;
-use footprint::View;
+ghost use Rattle.c_refine.specs.Calls.{lentRequest, WrittenMarked};
 
-// What is asked by what is lent.
-pub(crate) fn request_of(
-    width: u32,
-    height: u32,
-    dim: u32,
-    sx: f64,
-    sy: f64,
-    corners: &[f64],
-    inverted: bool,
-    view: View,
-) -> Request
-    ensures { λ r. ⌜ r ≡ lentRequest width height dim sx sy (now (corners .entry)) inverted view ⌝ }
-{
-    Request {
-        width,
-        height,
-        dim,
-        sx,
-        sy,
-        corners: c_lists::working_of(corners),
-        inverted,
-        view,
-        settings: consts::defaults(),
-    }
-}
-
-// A label's corners on a photograph as it is: `refine::refine_corners` over lists.
+// A label's corners on a photograph as it is: `c_refine::refine_corners` under its name for C.
 #[no_mangle]
 pub extern "C" fn trufolmesca_refine_corners(
     bytes: &[u8],
@@ -53,12 +25,23 @@ pub extern "C" fn trufolmesca_refine_corners(
         (now (modules .entry)) (photograph (now (bytes .entry)) stride)) r
         (now (places .entry)) (now (places .exit)) (now (counts .entry)) (now (counts .exit)) ⌝ }
 {
-    let request = request_of(width, height, dim, sx, sy, corners, inverted, View::Plain);
-    let a = refine::refine_corners(bytes, stride, modules, request);
-    c_answers::put_answer(a, places, counts)
+    c_refine::refine_corners(
+        bytes,
+        width,
+        height,
+        stride,
+        modules,
+        dim,
+        sx,
+        sy,
+        corners,
+        inverted,
+        places,
+        counts,
+    )
 }
 
-// Marked: sheet and copy are lent width × height bytes or more, in rows of width bytes.
+// A label's corners on a photograph as it is, marked: `c_refine::refine_corners_marking` under its name for C.
 #[no_mangle]
 pub extern "C" fn trufolmesca_refine_corners_marking(
     bytes: &[u8],
@@ -81,7 +64,105 @@ pub extern "C" fn trufolmesca_refine_corners_marking(
         (now (places .entry)) (now (places .exit)) (now (counts .entry)) (now (counts .exit))
         (now (sheet .entry)) (now (sheet .exit)) (now (copy .entry)) (now (copy .exit)) ⌝ }
 {
-    let request = request_of(width, height, dim, sx, sy, corners, inverted, View::Plain);
-    let a = marking::refine_corners_marking(bytes, stride, modules, request, sheet, copy);
-    c_answers::put_answer(a, places, counts)
+    c_refine::refine_corners_marking(
+        bytes,
+        width,
+        height,
+        stride,
+        modules,
+        dim,
+        sx,
+        sy,
+        corners,
+        inverted,
+        places,
+        counts,
+        sheet,
+        copy,
+    )
+}
+
+// A label's corners through a camera: `c_refine::refine_corners_mapped` under its name for C.
+#[no_mangle]
+pub extern "C" fn trufolmesca_refine_corners_mapped(
+    bytes: &[u8],
+    width: u32,
+    height: u32,
+    stride: u32,
+    modules: &[u8],
+    dim: u32,
+    sx: f64,
+    sy: f64,
+    corners: &[f64],
+    inverted: bool,
+    camera: &[f64],
+    lens: bool,
+    places: &mut [f64],
+    counts: &mut [u32],
+) -> u32
+    ensures { λ r. ⌜ Written (refine (lentRequest width height dim sx sy (now (corners .entry)) inverted (viewOf (now (camera .entry)) lens))
+        (now (modules .entry)) (photograph (now (bytes .entry)) stride)) r
+        (now (places .entry)) (now (places .exit)) (now (counts .entry)) (now (counts .exit)) ⌝ }
+{
+    c_refine::refine_corners_mapped(
+        bytes,
+        width,
+        height,
+        stride,
+        modules,
+        dim,
+        sx,
+        sy,
+        corners,
+        inverted,
+        camera,
+        lens,
+        places,
+        counts,
+    )
+}
+
+// A label's corners through a camera, marked: `c_refine::refine_corners_mapped_marking` under its name for C.
+#[no_mangle]
+pub extern "C" fn trufolmesca_refine_corners_mapped_marking(
+    bytes: &[u8],
+    width: u32,
+    height: u32,
+    stride: u32,
+    modules: &[u8],
+    dim: u32,
+    sx: f64,
+    sy: f64,
+    corners: &[f64],
+    inverted: bool,
+    camera: &[f64],
+    lens: bool,
+    places: &mut [f64],
+    counts: &mut [u32],
+    sheet: &mut [u8],
+    copy: &mut [u8],
+) -> u32
+    ensures { λ r. ⌜ WrittenMarked (lentRequest width height dim sx sy (now (corners .entry)) inverted (viewOf (now (camera .entry)) lens))
+        (now (modules .entry)) (photograph (now (bytes .entry)) stride) r
+        (now (places .entry)) (now (places .exit)) (now (counts .entry)) (now (counts .exit))
+        (now (sheet .entry)) (now (sheet .exit)) (now (copy .entry)) (now (copy .exit)) ⌝ }
+{
+    c_refine::refine_corners_mapped_marking(
+        bytes,
+        width,
+        height,
+        stride,
+        modules,
+        dim,
+        sx,
+        sy,
+        corners,
+        inverted,
+        camera,
+        lens,
+        places,
+        counts,
+        sheet,
+        copy,
+    )
 }

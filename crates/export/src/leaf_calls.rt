@@ -1,4 +1,4 @@
-// The leaf calls: each hands on what the one of its name in `leaves` gives.
+// The leaf calls: each hands on what the one of its name in `c_geometry` or `c_samples` gives.
 ghost use mathlib.Core.Path.{_≡_};
 ghost use lib.ListN.{set};
 ghost use lib.Ieee.{binary64};
@@ -12,11 +12,11 @@ ghost use Rattle.line.specs.Line.{fitLine, lineAnswer, crossing, crossAnswer};
 ghost use Rattle.profile.specs.Profile.{localizeEdgePoint};
 ghost use Rattle.c_lists.specs.Lent.{quadOf, mapOf, lineOf, cameraOf, viewOf, borderOf};
 ghost use Rattle.c_buffers.specs.Buffers.{withPlace, withPoint, withLine, withMap};
-ghost use Rattle.c_leaves.specs.Leaves.{lentScene, lentRay};
+ghost use Rattle.c_samples.specs.Samples.{lentScene, lentRay};
 
 // ---- sampling.rs
 
-// The sample of a photograph at x, y: `c_leaves::sample_bilinear` under its name for C.
+// The sample of a photograph at x, y: `c_samples::sample_bilinear` under its name for C.
 #[no_mangle]
 pub extern "C" fn trufolmesca_sample_bilinear(
     bytes: &[u8],
@@ -33,12 +33,12 @@ pub extern "C" fn trufolmesca_sample_bilinear(
     ensures { λ _. ⌜ now (value .exit) ≡ set (now (value .entry)) 0
         (sampleBilinear (now (bytes .entry)) width height stride x y (borderOf border constant) .luma) ⌝ }
 {
-    c_leaves::sample_bilinear(bytes, width, height, stride, x, y, border, constant, value)
+    c_samples::sample_bilinear(bytes, width, height, stride, x, y, border, constant, value)
 }
 
 // ---- camera.rs
 
-// Where a rectified place lies in the photograph: `c_leaves::rectified_to_source` under its name for C.
+// Where a rectified place lies in the photograph: `c_samples::rectified_to_source` under its name for C.
 #[no_mangle]
 pub extern "C" fn trufolmesca_rectified_to_source(
     camera: &[f64],
@@ -50,52 +50,52 @@ pub extern "C" fn trufolmesca_rectified_to_source(
     ensures { λ r. ⌜ r ≡ cameraAnswer (cameraOf (now (camera .entry)) lens) (source x y) .number ⌝ }
     ensures { λ _. ⌜ now (place .exit) ≡ withPlace (cameraAnswer (cameraOf (now (camera .entry)) lens) (source x y) .place) (now (place .entry)) ⌝ }
 {
-    c_leaves::rectified_to_source(camera, lens, x, y, place)
+    c_samples::rectified_to_source(camera, lens, x, y, place)
 }
 
 // ---- homography.rs
 
-// The map of the unit square onto four corners: `c_leaves::square_to_quad` under its name for C.
+// The map of the unit square onto four corners: `c_geometry::square_to_quad` under its name for C.
 #[no_mangle]
 pub extern "C" fn trufolmesca_square_to_quad(corners: &[f64], map: &mut [f64]) -> u32
     ensures { λ r. ⌜ r ≡ mapAnswer (squareToQuad (quadOf (now (corners .entry)))) .number ⌝ }
     ensures { λ _. ⌜ now (map .exit) ≡ withMap (mapAnswer (squareToQuad (quadOf (now (corners .entry)))) .map) (now (map .entry)) ⌝ }
 {
-    c_leaves::square_to_quad(corners, map)
+    c_geometry::square_to_quad(corners, map)
 }
 
-// The map of four corners onto four others: `c_leaves::quad_to_quad` under its name for C.
+// The map of four corners onto four others: `c_geometry::quad_to_quad` under its name for C.
 #[no_mangle]
 pub extern "C" fn trufolmesca_quad_to_quad(from: &[f64], to: &[f64], map: &mut [f64]) -> u32
     ensures { λ r. ⌜ r ≡ mapAnswer (quadToQuad (quadOf (now (from .entry))) (quadOf (now (to .entry)))) .number ⌝ }
     ensures { λ _. ⌜ now (map .exit) ≡ withMap (mapAnswer (quadToQuad (quadOf (now (from .entry))) (quadOf (now (to .entry)))) .map)
         (now (map .entry)) ⌝ }
 {
-    c_leaves::quad_to_quad(from, to, map)
+    c_geometry::quad_to_quad(from, to, map)
 }
 
-// Where a map sends u, v: `c_leaves::map` under its name for C.
+// Where a map sends u, v: `c_geometry::map` under its name for C.
 #[no_mangle]
 pub extern "C" fn trufolmesca_map(map: &[f64], u: f64, v: f64, place: &mut [f64])
     ensures { λ _. ⌜ now (place .exit) ≡ withPlace (mapPoint (mapOf (now (map .entry))) u v) (now (place .entry)) ⌝ }
 {
-    c_leaves::map(map, u, v, place);
+    c_geometry::map(map, u, v, place);
 }
 
-// The map that scales: `c_leaves::scaled` under its name for C.
+// The map that scales: `c_geometry::scaled` under its name for C.
 #[no_mangle]
 pub extern "C" fn trufolmesca_scaled(sx: f64, sy: f64, map: &mut [f64])
     ensures { λ _. ⌜ now (map .exit) ≡ withMap (scaled sx sy) (now (map .entry)) ⌝ }
 {
-    c_leaves::scaled(sx, sy, map);
+    c_geometry::scaled(sx, sy, map);
 }
 
-// The inverse of a map: `c_leaves::inverse` under its name for C.
+// The inverse of a map: `c_geometry::inverse` under its name for C.
 #[no_mangle]
 pub extern "C" fn trufolmesca_inverse(map: &[f64], out: &mut [f64])
     ensures { λ _. ⌜ now (out .exit) ≡ withMap (inverse (mapOf (now (map .entry)))) (now (out .entry)) ⌝ }
 {
-    c_leaves::inverse(map, out);
+    c_geometry::inverse(map, out);
 }
 
 // The inner map first, and the outer one after it.
@@ -103,12 +103,12 @@ pub extern "C" fn trufolmesca_inverse(map: &[f64], out: &mut [f64])
 pub extern "C" fn trufolmesca_then(inner: &[f64], outer: &[f64], out: &mut [f64])
     ensures { λ _. ⌜ now (out .exit) ≡ withMap (composed (mapOf (now (inner .entry))) (mapOf (now (outer .entry)))) (now (out .entry)) ⌝ }
 {
-    c_leaves::then(inner, outer, out);
+    c_geometry::then(inner, outer, out);
 }
 
 // ---- line.rs
 
-// The line through weighted points: `c_leaves::fit_line_tls_weighted` under its name for C.
+// The line through weighted points: `c_geometry::fit_line_tls_weighted` under its name for C.
 #[no_mangle]
 pub extern "C" fn trufolmesca_fit_line_tls_weighted(
     xs: &[f64],
@@ -120,22 +120,22 @@ pub extern "C" fn trufolmesca_fit_line_tls_weighted(
     ensures { λ _. ⌜ now (line .exit) ≡ withLine (lineAnswer (fitLine (now (xs .entry)) (now (ys .entry)) (now (weights .entry))) .line)
         (now (line .entry)) ⌝ }
 {
-    c_leaves::fit_line_tls_weighted(xs, ys, weights, line)
+    c_geometry::fit_line_tls_weighted(xs, ys, weights, line)
 }
 
-// Where two lines cross: `c_leaves::intersect_lines` under its name for C.
+// Where two lines cross: `c_geometry::intersect_lines` under its name for C.
 #[no_mangle]
 pub extern "C" fn trufolmesca_intersect_lines(a: &[f64], b: &[f64], place: &mut [f64]) -> u32
     ensures { λ r. ⌜ r ≡ crossAnswer (crossing (lineOf (now (a .entry))) (lineOf (now (b .entry)))) .number ⌝ }
     ensures { λ _. ⌜ now (place .exit) ≡ withPlace (crossAnswer (crossing (lineOf (now (a .entry))) (lineOf (now (b .entry)))) .place)
         (now (place .entry)) ⌝ }
 {
-    c_leaves::intersect_lines(a, b, place)
+    c_geometry::intersect_lines(a, b, place)
 }
 
 // ---- refine.rs, `localize_edge_point`
 
-// An edge point on a photograph as it is: `c_leaves::localize_edge_point` under its name for C.
+// An edge point on a photograph as it is: `c_samples::localize_edge_point` under its name for C.
 #[no_mangle]
 pub extern "C" fn trufolmesca_localize_edge_point(
     bytes: &[u8],
@@ -157,7 +157,7 @@ pub extern "C" fn trufolmesca_localize_edge_point(
         (lentScene width height Plain)
         (lentRay «coarse_x» «coarse_y» «normal_x» «normal_y» step inverted «inward_differs») .point) (now (point .entry)) ⌝ }
 {
-    c_leaves::localize_edge_point(
+    c_samples::localize_edge_point(
         bytes,
         width,
         height,
@@ -173,7 +173,7 @@ pub extern "C" fn trufolmesca_localize_edge_point(
     )
 }
 
-// An edge point through a camera: `c_leaves::localize_edge_point_mapped` under its name for C.
+// An edge point through a camera: `c_samples::localize_edge_point_mapped` under its name for C.
 #[no_mangle]
 pub extern "C" fn trufolmesca_localize_edge_point_mapped(
     bytes: &[u8],
@@ -197,7 +197,7 @@ pub extern "C" fn trufolmesca_localize_edge_point_mapped(
         (lentScene width height (viewOf (now (camera .entry)) lens))
         (lentRay «coarse_x» «coarse_y» «normal_x» «normal_y» step inverted «inward_differs») .point) (now (point .entry)) ⌝ }
 {
-    c_leaves::localize_edge_point_mapped(
+    c_samples::localize_edge_point_mapped(
         bytes,
         width,
         height,

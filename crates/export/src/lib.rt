@@ -2,4 +2,3 @@
 // that the caller lends. bindings/trufolmesca.h says what each list holds.
 mod calls; // calls.rt: the refinement calls
 mod leaf_calls; // leaf_calls.rt: the leaf calls
-mod mapped; // mapped.rt: the refinement calls through a camera

@@ -19,11 +19,11 @@ use camera::LensDistortion;
 use fields::byte_at;
 use fields::float_at;
 use fields::number_at;
+use footprint::View;
 use job_card::has_exactly;
 use job_card::part;
 use pixel::WorkingPixel;
 use refine::Request;
-use footprint::View;
 
 // What is behind the first byte of a slice; of an empty one nothing.
 fn behind_first<'a>(s: &'a [u8]) -> &'a [u8]

@@ -5,6 +5,7 @@ ghost use Rattle.photograph.specs.Photographs.{photo};
 ghost use Rattle.sample_tree.specs.Run.{state, sampler, Runs};
 ghost use Rattle.profile.specs.Profile.{localize as localized, localizeEdgePoint, noPoint, offsetAlong, viewNumber};
 use consts::Settings;
+use footprint::Scene;
 use peak::Located;
 use peak::Peaked;
 use pixel::Direction;
@@ -12,7 +13,6 @@ use pixel::EdgePoint;
 use pixel::SourcePixel;
 use sample_tree::Meter;
 use sampling::Sampled;
-use footprint::Scene;
 
 // Passes of a point: the Aitken step is derived for exactly three.
 const PASSES: usize = 3;

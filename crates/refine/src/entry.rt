@@ -14,8 +14,8 @@ ghost use Rattle.refine.specs.Refine.{
 use crate::Request;
 use edge::Plan;
 use edge::Task;
-use pixel::SourcePixel;
 use footprint::Scene;
+use pixel::SourcePixel;
 
 // How far from the origin a source corner may lie: 64 times the widest photograph.
 const MAX_COORDINATE: f64 = 1048576.0;

@@ -5,10 +5,10 @@ ghost use Rattle.sample_tree.specs.Run.{state, sampler, Runs};
 ghost use Rattle.refine.specs.Refine.{photograph, plain, refine, refinement, sceneOf};
 use consts::Settings;
 use corners::Answer;
+use footprint::View;
 use pixel::WorkingPixel;
 use rounds::RoundResult;
 use sample_tree::Meter;
-use footprint::View;
 
 mod entry; // entry.rt: the entry checks
 

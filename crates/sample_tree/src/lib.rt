@@ -4,9 +4,9 @@ ghost use Rattle.photograph.specs.Photographs.{photo};
 ghost use Rattle.sample_tree.specs.Meters.{increment};
 ghost use Rattle.sample_tree.specs.SampleTree.{oneSample};
 ghost use Rattle.sample_tree.specs.Run.{state, sampler, Runs};
+use footprint::Scene;
 use pixel::SourcePixel;
 use sampling::Sampled;
-use footprint::Scene;
 
 // What sampling carries along: how many samples were tried.
 pub struct Meter {

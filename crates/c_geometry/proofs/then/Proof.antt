@@ -1,0 +1,28 @@
+-- `c_geometry::then` meets its contract: it hands on what its callees answer. Assumes nothing.
+use borrow.Author.Needs.{needs}
+use Rattle.c_geometry.proofs.then.Statement.{statement}
+use Rattle.c_geometry.proofs.then.Tie as tie
+
+map-of-requires : tie.Need-map-of-requires
+map-of-requires c κs = search needs
+
+map-of-requires-2 : tie.Need-map-of-requires-2
+map-of-requires-2 c κs = search needs
+
+then-requires : tie.Need-then-requires
+then-requires c κs = search needs
+
+put-map-requires : tie.Need-put-map-requires
+put-map-requires c κs = search needs
+
+same-length : tie.Need-same-length
+same-length c = search needs
+
+returns : tie.Need-returns
+returns c =
+    simp (c .before .before .put-map .ensures, c .before .before .before .then .ensures, c .before .before .before .before .before .map-of2 .ensures, c .before .before .before .before .before .before .map-of .ensures)
+
+pub then-spec : {M : Type 1} → statement M
+then-spec =
+    tie.close
+    (tie.spec map-of-requires map-of-requires-2 then-requires put-map-requires same-length returns)

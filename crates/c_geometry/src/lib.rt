@@ -1,0 +1,91 @@
+// The calls for C and Rust about maps and lines, each over the lists and buffers that it is lent: `export` hands every one on as it is.
+ghost use mathlib.Core.Path.{_≡_};
+ghost use Rattle.homography.specs.Homography.{squareToQuad, quadToQuad, mapAnswer, mapPoint, scaled as scaledBy, inverse as inverseOf, composed};
+ghost use Rattle.line.specs.Line.{fitLine, lineAnswer, crossing, crossAnswer};
+ghost use Rattle.c_lists.specs.Lent.{quadOf, mapOf, lineOf};
+ghost use Rattle.c_buffers.specs.Buffers.{withPlace, withLine, withMap};
+use homography::PerspectiveTransform;
+
+// ---- homography.rs
+
+// The map of the unit square to a quad, or 8 where it has none.
+pub fn square_to_quad(corners: &[f64], map: &mut [f64]) -> u32
+    ensures { λ r. ⌜ r ≡ mapAnswer (squareToQuad (quadOf (now (corners .entry)))) .number ⌝ }
+    ensures { λ _. ⌜ now (map .exit) ≡ withMap (mapAnswer (squareToQuad (quadOf (now (corners .entry)))) .map) (now (map .entry)) ⌝ }
+{
+    let q = c_lists::quad_of(corners);
+    let square = PerspectiveTransform::square_to_quad(q);
+    c_buffers::put_map(map, square.map);
+    square.number
+}
+
+// The map of one quad to another, or 8 where one has none.
+pub fn quad_to_quad(from: &[f64], to: &[f64], map: &mut [f64]) -> u32
+    ensures { λ r. ⌜ r ≡ mapAnswer (quadToQuad (quadOf (now (from .entry))) (quadOf (now (to .entry)))) .number ⌝ }
+    ensures { λ _. ⌜ now (map .exit) ≡ withMap (mapAnswer (quadToQuad (quadOf (now (from .entry))) (quadOf (now (to .entry)))) .map)
+        (now (map .entry)) ⌝ }
+{
+    let f = c_lists::quad_of(from);
+    let t = c_lists::quad_of(to);
+    let quads = PerspectiveTransform::quad_to_quad(f, t);
+    c_buffers::put_map(map, quads.map);
+    quads.number
+}
+
+// Where a map sends u, v.
+pub fn map(map: &[f64], u: f64, v: f64, place: &mut [f64])
+    ensures { λ _. ⌜ now (place .exit) ≡ withPlace (mapPoint (mapOf (now (map .entry))) u v) (now (place .entry)) ⌝ }
+{
+    let m = c_lists::map_of(map);
+    c_buffers::put_place(place, m.map(u, v));
+}
+
+// The map that scales by sx and sy.
+pub fn scaled(sx: f64, sy: f64, map: &mut [f64])
+    ensures { λ _. ⌜ now (map .exit) ≡ withMap (scaledBy sx sy) (now (map .entry)) ⌝ }
+{
+    c_buffers::put_map(map, PerspectiveTransform::scaled(sx, sy));
+}
+
+// A map's inverse, up to a scale.
+pub fn inverse(map: &[f64], out: &mut [f64])
+    ensures { λ _. ⌜ now (out .exit) ≡ withMap (inverseOf (mapOf (now (map .entry)))) (now (out .entry)) ⌝ }
+{
+    let forward = c_lists::map_of(map);
+    c_buffers::put_map(out, forward.inverse());
+}
+
+// The map that sends a point through the inner map first, and through the outer one after it.
+pub fn then(inner: &[f64], outer: &[f64], out: &mut [f64])
+    ensures { λ _. ⌜ now (out .exit) ≡ withMap (composed (mapOf (now (inner .entry))) (mapOf (now (outer .entry)))) (now (out .entry)) ⌝ }
+{
+    let i = c_lists::map_of(inner);
+    let o = c_lists::map_of(outer);
+    c_buffers::put_map(out, i.then(o));
+}
+
+// ---- line.rs
+
+// The line through weighted points, or the number of what is wrong with them: 13 to 16, 10, 11.
+pub fn fit_line_tls_weighted(xs: &[f64], ys: &[f64], weights: &[f64], line: &mut [f64]) -> u32
+    ensures { λ r. ⌜ r ≡ lineAnswer (fitLine (now (xs .entry)) (now (ys .entry)) (now (weights .entry))) .number ⌝ }
+    ensures { λ _. ⌜ now (line .exit) ≡ withLine (lineAnswer (fitLine (now (xs .entry)) (now (ys .entry)) (now (weights .entry))) .line)
+        (now (line .entry)) ⌝ }
+{
+    let fitted = line::fit_line_tls_weighted(xs, ys, weights);
+    c_buffers::put_line(line, fitted.line);
+    fitted.number
+}
+
+// Where two lines cross, as a place on the first, or 18.
+pub fn intersect_lines(a: &[f64], b: &[f64], place: &mut [f64]) -> u32
+    ensures { λ r. ⌜ r ≡ crossAnswer (crossing (lineOf (now (a .entry))) (lineOf (now (b .entry)))) .number ⌝ }
+    ensures { λ _. ⌜ now (place .exit) ≡ withPlace (crossAnswer (crossing (lineOf (now (a .entry))) (lineOf (now (b .entry)))) .place)
+        (now (place .entry)) ⌝ }
+{
+    let first = c_lists::line_of(a);
+    let second = c_lists::line_of(b);
+    let crossed = line::intersect_lines(first, second);
+    c_buffers::put_place(place, crossed.place);
+    crossed.number
+}

@@ -1,2 +1,0 @@
--- What the contracts of `leaves` cite.
-pub mod Leaves

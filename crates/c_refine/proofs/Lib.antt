@@ -1,0 +1,2 @@
+-- What the proofs of `c_refine` cite.
+pub mod Written

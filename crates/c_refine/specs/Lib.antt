@@ -1,0 +1,2 @@
+-- What the contracts of `c_refine` cite.
+pub mod Calls

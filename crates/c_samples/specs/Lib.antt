@@ -1,0 +1,2 @@
+-- What the contracts of `c_samples` cite.
+pub mod Samples

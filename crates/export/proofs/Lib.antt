@@ -1,2 +1,0 @@
--- What the proofs of `export` cite.
-pub mod Written

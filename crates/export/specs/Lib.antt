@@ -1,2 +1,0 @@
--- What the contracts of `export` cite.
-pub mod Calls
