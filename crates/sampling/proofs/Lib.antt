@@ -4,5 +4,6 @@ pub mod Pixels
 pub mod Interpolation
 pub mod Answers
 pub mod Inside
+pub mod Photographs
 -- the definitions opened together
 pub mod Opened
