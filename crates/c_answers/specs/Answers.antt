@@ -1,4 +1,5 @@
--- How the refinement calls for C and Rust write an answer into the buffers that they are lent. A value past the end of a buffer is left out. Definitions only.
+-- How the refinement calls for C and Rust write an answer into the buffers that they are lent. A value
+-- past the end of a buffer is left out. Definitions only, to be believed.
 use Prim.Native.Nat.{ℕ, _+_}
 use mathlib.Core.Path.{_≡_}
 use mathlib.Core.Bool.{Bool, false}

@@ -1,2 +1,2 @@
--- What the contracts of `answers` cite.
+-- What the contracts of `c_answers` cite.
 pub mod Answers

@@ -1,4 +1,6 @@
--- camera.rs: `rectified_to_source`, for no lens and for Brown-Conrady, and which cameras are refused. Definitions only.
+-- camera.rs: `CameraIntrinsics::valid` (22 to 28), which with the lens says what cameras are refused,
+-- and `rectified_to_source` (138 to 182), for no lens and for Brown-Conrady. Definitions only, to be
+-- believed.
 use mathlib.Core.Bool.{Bool, true, false, not, _&&_, _||_}
 use lib.Ieee.{Float}
 use Rattle.prelude.specs.Prelude.{if_then_else_}

@@ -1,7 +1,5 @@
 // camera.rs: from a rectified place to the source picture, for no lens and for Brown-Conrady.
 ghost use mathlib.Core.Path.{_≡_};
-ghost use mathlib.Core.Bool.{_&&_};
-ghost use Rattle.ieee.specs.Parts.{isFinite};
 ghost use Rattle.camera.specs.Camera.{validIntrinsics, validLens, validCamera, sameIntrinsics, isNone, isIdentity, distorted, projected, ifFinite, rectifiedToSource, cameraAnswer};
 use pixel::SourcePixel;
 
@@ -47,25 +45,15 @@ pub struct PlaceAnswer {
     pub place: SourcePixel,
 }
 
-// Whether neither of two values is a NaN or an infinity.
-fn both_finite(a: f64, b: f64) -> bool
-    ensures { λ r. ⌜ r ≡ (isFinite a && isFinite b) ⌝ }
-{
-    if ieee::is_finite(a) {
-        return ieee::is_finite(b);
-    }
-    false
-}
-
 impl CameraIntrinsics {
     // Finite numbers, and focal lengths above 0.
     fn valid(self) -> bool
         ensures { λ r. ⌜ r ≡ validIntrinsics self ⌝ }
     {
-        if !both_finite(self.fx, self.fy) {
+        if !ieee::both_finite(self.fx, self.fy) {
             return false;
         }
-        if !both_finite(self.cx, self.cy) {
+        if !ieee::both_finite(self.cx, self.cy) {
             return false;
         }
         if self.fx > 0.0 {
@@ -99,10 +87,10 @@ impl LensDistortion {
         match self {
             LensDistortion::None => true,
             LensDistortion::BrownConrady { k1, k2, p1, p2, k3 } => {
-                if !both_finite(k1, k2) {
+                if !ieee::both_finite(k1, k2) {
                     return false;
                 }
-                if !both_finite(p1, p2) {
+                if !ieee::both_finite(p1, p2) {
                     return false;
                 }
                 ieee::is_finite(k3)
@@ -142,7 +130,7 @@ impl LensDistortion {
 fn if_finite(p: SourcePixel) -> SourcePoint
     ensures { λ r. ⌜ r ≡ ifFinite p ⌝ }
 {
-    if both_finite(p.0, p.1) {
+    if ieee::both_finite(p.0, p.1) {
         return SourcePoint::At(p);
     }
     SourcePoint::Nowhere
@@ -193,7 +181,7 @@ impl CameraCalibration {
     fn place_in_source(self, p: SourcePixel) -> SourcePoint
         ensures { λ r. ⌜ r ≡ rectifiedToSource self p ⌝ }
     {
-        if !both_finite(p.0, p.1) {
+        if !ieee::both_finite(p.0, p.1) {
             return SourcePoint::Nowhere;
         }
         if self.is_identity() {

@@ -15,7 +15,7 @@ job-back : (card tail : List ℕ) → readResult (resultCard (jobAnswer card .re
 job-back card tail =
     let sound = job-sound card in
     let r = jobAnswer card .refined in
-    read-back (r .corners) (r .«edge_stats») (r .«corner_refined») tail (sound .corners) (sound .stats) (sound .flags)
+    read-back tail (r .corners) (r .«edge_stats») (r .«corner_refined») (sound .corners) (sound .stats) (sound .flags)
 
 -- ---- the theorems
 

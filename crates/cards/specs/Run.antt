@@ -1,4 +1,5 @@
--- A job card run: what it answers, and what it returns and leaves in a buffer that it is lent for the result card. Definitions only.
+-- A job card run: what it answers, and what it returns and leaves in a buffer that it is lent for the
+-- result card. Definitions only, to be believed.
 use Prim.Native.Nat.{ℕ}
 use mathlib.Core.Bool.{_&&_}
 use mathlib.Core.List.{List, _++_}

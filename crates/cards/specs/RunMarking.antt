@@ -1,4 +1,5 @@
--- A job card run by the marking call: what it returns, and what it leaves in the sheet and the copy that it is lent. Definitions only.
+-- A job card run by the marking call: what it returns, and what it leaves in the sheet and the copy
+-- that it is lent. Definitions only, to be believed.
 use mathlib.Core.Path.{_≡_}
 use Prim.Native.Nat.{ℕ}
 use mathlib.Core.List.{List}

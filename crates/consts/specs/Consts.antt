@@ -1,4 +1,6 @@
--- consts.rs: the numbers of the refinement. What each field means, and where its number comes from, stands at the record in src/lib.rt. Definitions only.
+-- consts.rs: the numbers of the refinement, and how many points an edge's arrays hold. What each
+-- field means, and where its number comes from, stands at the record in src/lib.rt. Definitions
+-- only, to be believed.
 use Prim.Native.Nat.{ℕ}
 use Rattle.ieee.specs.Floats.{f0·35, f0·70, f1·5, f0·15, f2}
 use Rattle.consts.specs.declared.Settings.{Settings}

@@ -1,5 +1,6 @@
--- refine.rs, what a round's edges come to: where an edge's line and counts are put (602 and 603), the refusal under two
--- valid edges, the corners where the edges cross, and the answer (606 to 627). Definitions only; `opened` is internal.
+-- refine.rs, what a round's edges come to: where an edge's line and counts are put (602 and 603), the
+-- refusal under two valid edges, the corners where the edges cross, and the answer (606 to 627).
+-- Definitions only, to be believed.
 use Prim.Native.Nat.{ℕ, _+_, _%_}
 use mathlib.Core.Bool.{Bool, true, false, not, _&&_}
 use mathlib.Core.List.{List, [], _∷_}

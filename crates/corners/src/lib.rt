@@ -23,7 +23,8 @@ use line::Line2;
 use pixel::Direction;
 use pixel::SourcePixel;
 
-// Four corners in source pixels, what is counted of the four edges, and which corners were refined.
+// Four corners in source pixels, or with a camera in rectified pixels; what is counted of the four edges, and which
+// corners were refined.
 pub struct RefinedCorners {
     pub corners: [SourcePixel; 4],
     pub edge_stats: [EdgeStat; 4],

@@ -1,4 +1,5 @@
--- refine.rs, one edge of a round: its probes, the points that they find, and the line through those. Definitions only.
+-- refine.rs, one edge of a round (508 to 601): how long it is, where its probes stand and point, the
+-- points that they find, and the line through those. Definitions only, to be believed.
 use Prim.Native.Nat.{ℕ}
 use mathlib.Core.Bool.{false}
 use mathlib.Core.List.{List, [], _∷_, _++_}

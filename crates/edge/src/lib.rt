@@ -161,7 +161,7 @@ fn put(located: Located, xs: &mut [f64], ys: &mut [f64], weights: &mut [f64], n:
 }
 
 // The points that an edge's probes find, into the three slices. What all probes share is taken out of the search
-// once: a probe that took it out again cost a hundredth of a run.
+// once, before the loop, so that no probe copies it again.
 fn find_points(
     search: Search,
     bytes: &[u8],

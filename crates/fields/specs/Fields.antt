@@ -1,5 +1,6 @@
--- What the fields of a card are made of: a field is a one-byte tag, a two-byte length and contents; numbers stand with the lowest byte first, and floats
--- as the 8 bytes of their binary64 bits. Definitions only. They are total: a byte past the end of a list reads as 0.
+-- What the fields of a card are made of: a field is a one-byte tag, a two-byte length and contents;
+-- numbers stand with the lowest byte first, and floats as the 8 bytes of their binary64 bits.
+-- Definitions only, to be believed. They are total: a byte past the end of a list reads as 0.
 use Prim.Native.Nat.{ℕ, zero, suc, _+_, _*_, _/_, _%_}
 use mathlib.Core.List.{List, [], _∷_, _++_}
 use lib.ListN.{getD, length, drop}

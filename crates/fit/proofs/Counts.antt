@@ -18,7 +18,7 @@ use Rattle.fit.specs.declared.EdgeStat.{EdgeStat}
 use Rattle.fit.specs.declared.EdgeFit.{EdgeFit}
 use Rattle.fit.specs.declared.EdgeFit.the-variants.{Refusal, TooFewPoints, LineFit}
 use Rattle.fit.specs.Fit.{stat, inliers, lined, refit, rejectOutliers, firstFit, fitEdge, residuals, threshold, fitPoints}
-use Rattle.fit.proofs.Keeping.{kept-fewer}
+use Rattle.fit.proofs.Inliers.{inliers-fewer}
 
 -- at most n probes, and no more points than probes
 pub record Counted (n : ℕ) (c : EdgeStat) : Type 0 where
@@ -55,7 +55,7 @@ module _ (n : ℕ) (s : Settings) (probed : ℕ) (few : probed ≤ n) where
         let rs = residuals l ps in
         either (EdgeCounted n) (not (finiteTo (length rs) rs))
         stopped
-        (refit-counted (length ps) (inliers (threshold s modulePx rs) rs ps) found (kept-fewer (threshold s modulePx rs) rs ps))
+        (refit-counted (length ps) (inliers (threshold s modulePx rs) rs ps) found (inliers-fewer (threshold s modulePx rs) rs ps))
 
     -- of a fit to the points of so many probes
     pub fit-counted : EdgeCounted n (fitEdge s probed modulePx ps)

@@ -6,7 +6,7 @@ pub mod Rising
 -- what the functions' proofs cite
 pub mod Lists
 pub mod Sorting
-pub mod Keeping
+pub mod Inliers
 pub mod Points
 -- what the crates above cite
 pub mod Counts

@@ -22,7 +22,7 @@ use Rattle.line.specs.declared.Fitted.the-variants.{Along}
 use Rattle.fit.specs.declared.EdgeFit.the-variants.{Refusal, TooFewPoints}
 use Rattle.fit.specs.Lent.{Paired, Least}
 use Rattle.fit.specs.Fit.{pointsOf, fitPoints, residual, residuals, inliers, stat, lined, refit, rejectOutliers, firstFit, fitEdge, threshold}
-use Rattle.fit.proofs.Keeping.{kept-fewer}
+use Rattle.fit.proofs.Inliers.{inliers-fewer}
 
 -- ---- three lists of one length, element by element
 
@@ -98,24 +98,24 @@ paired-taken xs ys ws n h =
       hold = omega (arith, length-take-le n xs (h .under-b), h .under-a);
     }
 
--- ---- the points that are kept are those of the x, y and weights that are kept
+-- ---- the inliers of the points are those of the x, y and weights
 
-kept-alike : (most : Float) (rs : List Float) {xs ys ws : List Float} → Alike xs ys ws → Alike (inliers most rs xs) (inliers most rs ys) (inliers most rs ws)
+inliers-alike : (most : Float) (rs : List Float) {xs ys ws : List Float} → Alike xs ys ws → Alike (inliers most rs xs) (inliers most rs ys) (inliers most rs ws)
 unfolding inliers
-kept-alike most [] a = none
-kept-alike most (r ∷ rs) none = none
-kept-alike most (r ∷ rs) (more {x} {y} {w} {xs} {ys} {ws} a) = by (r ≼ most) (kept-alike most rs a)
+inliers-alike most [] a = none
+inliers-alike most (r ∷ rs) none = none
+inliers-alike most (r ∷ rs) (more {x} {y} {w} {xs} {ys} {ws} a) = by (r ≼ most) (inliers-alike most rs a)
   where
     by : (b : Bool) → Alike (inliers most rs xs) (inliers most rs ys) (inliers most rs ws) →
         Alike (if b then x ∷ inliers most rs xs else inliers most rs xs) (if b then y ∷ inliers most rs ys else inliers most rs ys) (if b then w ∷ inliers most rs ws else inliers most rs ws)
     by true i = more i
     by false i = i
 
-kept-points : (most : Float) (rs : List Float) {xs ys ws : List Float} → Alike xs ys ws → pointsOf (inliers most rs xs) (inliers most rs ys) (inliers most rs ws) ≡ inliers most rs (pointsOf xs ys ws)
+inliers-points : (most : Float) (rs : List Float) {xs ys ws : List Float} → Alike xs ys ws → pointsOf (inliers most rs xs) (inliers most rs ys) (inliers most rs ws) ≡ inliers most rs (pointsOf xs ys ws)
 unfolding inliers pointsOf
-kept-points most [] a = refl
-kept-points most (r ∷ rs) none = refl
-kept-points most (r ∷ rs) (more {x} {y} {w} {xs} {ys} {ws} a) = by (r ≼ most) (kept-points most rs a)
+inliers-points most [] a = refl
+inliers-points most (r ∷ rs) none = refl
+inliers-points most (r ∷ rs) (more {x} {y} {w} {xs} {ys} {ws} a) = by (r ≼ most) (inliers-points most rs a)
   where
     by : (b : Bool) → pointsOf (inliers most rs xs) (inliers most rs ys) (inliers most rs ws) ≡ inliers most rs (pointsOf xs ys ws) →
         pointsOf (if b then x ∷ inliers most rs xs else inliers most rs xs) (if b then y ∷ inliers most rs ys else inliers most rs ys) (if b then w ∷ inliers most rs ws else inliers most rs ws)
@@ -162,24 +162,24 @@ module _ (xs ys ws : List Float) (h : Paired xs ys ws) where
     edge-more m k = rw (count, le-ltb (length xs) (s .«min_edge_points») k, ← fit-points)
 
     module _ (m : Float) (l : Line2) (rs : List Float) (b : Bool) (e : rs ≡ residuals l (pointsOf xs ys ws)) (f : b ≡ finiteTo (length rs) rs) where
-      pub trim-stops : not b ≡ true → Refusal number.overflow ≡ firstFit s probed m (pointsOf xs ys ws) (Along l)
+      pub reject-refused : not b ≡ true → Refusal number.overflow ≡ firstFit s probed m (pointsOf xs ys ws) (Along l)
       unfolding firstFit rejectOutliers
-      trim-stops k = rw (← e, ← f, k)
+      reject-refused k = rw (← e, ← f, k)
 
-      pub trim-rest : not b ≡ false → refit s probed (length xs) (inliers (threshold s m rs) rs (pointsOf xs ys ws)) ≡ firstFit s probed m (pointsOf xs ys ws) (Along l)
+      pub reject-refit : not b ≡ false → refit s probed (length xs) (inliers (threshold s m rs) rs (pointsOf xs ys ws)) ≡ firstFit s probed m (pointsOf xs ys ws) (Along l)
       unfolding firstFit rejectOutliers
-      trim-rest k = rw (← e, ← f, k, count)
+      reject-refit k = rw (← e, ← f, k, count)
 
 -- ---- what the arrays hold, in place of the lists that they hold
 
 module _ (most : Float) (rs xs ys ws : List Float) (h : Paired xs ys ws) (a b d : List Float) (p : a ≡ inliers most rs xs) (q : b ≡ inliers most rs ys) (r : d ≡ inliers most rs ws) where
-  pub kept-lent : Paired a b d
-  kept-lent =
-      let k = same-lengths (kept-alike most rs (lent xs ys ws h)) in
-      rw (p, q, r) (record { ys-too = k .0; weights-too = k .1; hold = omega (arith, kept-fewer most rs xs, h .hold) })
+  pub inliers-lent : Paired a b d
+  inliers-lent =
+      let k = same-lengths (inliers-alike most rs (lent xs ys ws h)) in
+      rw (p, q, r) (record { ys-too = k .0; weights-too = k .1; hold = omega (arith, inliers-fewer most rs xs, h .hold) })
 
-  pub kept-lent-fewer : length a ≤ length xs
-  kept-lent-fewer = rw p (kept-fewer most rs xs)
+  pub inliers-lent-fewer : length a ≤ length xs
+  inliers-lent-fewer = rw p (inliers-fewer most rs xs)
 
   pub refit-lent : (s : Settings) (probed : ℕ) → refit s probed (length xs) (pointsOf a b d) ≡ refit s probed (length xs) (inliers most rs (pointsOf xs ys ws))
-  refit-lent s probed = rw (p, q, r) (ap (refit s probed (length xs)) (kept-points most rs (lent xs ys ws h)))
+  refit-lent s probed = rw (p, q, r) (ap (refit s probed (length xs)) (inliers-points most rs (lent xs ys ws h)))

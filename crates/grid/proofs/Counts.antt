@@ -1,5 +1,5 @@
--- How many probes an edge has: no more than the settings allow, nor than an array has room for. Candidates beyond that are thinned, and what is
--- thinned is cut at the limit. Assumes nothing.
+-- How many probes an edge has: no more than the settings allow, nor than an array has room for. Candidates beyond that are decimated, and what is
+-- left is cut at the limit. Assumes nothing.
 use Prim.Native.Nat.{ℕ, _≤_, min}
 use mathlib.Core.List.{List}
 use native.Mathlib.Nat.{min-le-left, min-le-right}
@@ -13,9 +13,9 @@ use Rattle.grid.specs.declared.Probe.{Probe}
 use Rattle.grid.specs.Grids.{Grid}
 use Rattle.grid.specs.Probes.{decimated, probesOf}
 
-few-thinned : (most : ℕ) (ps : List Probe) → length (decimated most ps) ≤ most
+few-decimated : (most : ℕ) (ps : List Probe) → length (decimated most ps) ≤ most
 unfolding decimated
-few-thinned most ps = by-test (ltb most (length ps))
+few-decimated most ps = by-test (ltb most (length ps))
     (λ more. rw (more, length-take) (min-le-left most _))
     (λ enough. rw enough (ltb-false most (length ps) enough))
 
@@ -28,4 +28,4 @@ limit-in-room s = min-le-right (s .«max_points_per_edge») maxEdgePoints
 
 pub few-probes : (s : Settings) (g : Grid) (e : ℕ) → length (probesOf s g e) ≤ probeLimit s
 unfolding probesOf
-few-probes s g e = few-thinned _ _
+few-probes s g e = few-decimated _ _

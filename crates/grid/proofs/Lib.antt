@@ -1,8 +1,8 @@
 -- The laws that the proofs of `grid` cite.
 pub mod Modules
-pub mod Sides
+pub mod Layouts
 pub mod Candidates
-pub mod Thinning
+pub mod Decimated
 -- what the crates above cite
 pub mod Counts
 -- the definitions opened together

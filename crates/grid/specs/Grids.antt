@@ -1,4 +1,6 @@
--- bitmatrix.rs, `get`: the modules of a label, and which grids are refused by 3. Definitions only.
+-- bitmatrix.rs, `get` (60 to 63): the modules of a label, those of an edge and the next inward, as
+-- refine.rs takes them (533 to 539); and which grids are refused by 3. Definitions only, to be
+-- believed.
 use Prim.Native.Nat.{ℕ, zero, suc, _+_, _-_, _*_}
 use mathlib.Core.Bool.{Bool, true, _&&_}
 use mathlib.Core.List.{List, [], _∷_}

@@ -1,4 +1,5 @@
--- refine.rs, the selection of probes: two in each dark border module of the middle of an edge, thinned to a limit. Definitions only.
+-- refine.rs, the selection of probes (531 to 561): two in each dark border module of the middle of an
+-- edge, decimated to a limit; and what an array of probes holds. Definitions only, to be believed.
 use mathlib.Core.Path.{_≡_}
 use Prim.Native.Nat.{ℕ, zero, suc, _+_, _-_, _/_, _%_, _≤_, min}
 use mathlib.Core.Bool.{Bool, false, not, _||_}

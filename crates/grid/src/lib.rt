@@ -280,7 +280,7 @@ fn limit(most: u32) -> usize
     MAX_EDGE_POINTS
 }
 
-// The probes of an edge: its candidates, thinned evenly to the limit.
+// The probes of an edge: its candidates, decimated evenly to the limit.
 pub fn probes_of(settings: Settings, modules: &[u8], dim: u32, edge: u32) -> Probes
     ensures { λ r. ⌜ Selected settings (gridOf dim (now (modules .entry))) edge r ⌝ }
 {

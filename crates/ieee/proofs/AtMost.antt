@@ -8,6 +8,7 @@ use native.Mathlib.Omega.{arith}
 use lib.Dec.{T, ltb, eqb, ltb→lt, lt→ltb, eqb→eq}
 use lib.Ieee.{Float, nan, inf, fin, up, down, neg, below, level, lt, eq, le}
 use lib.Ieee.Fits.{eq→eqb, and-i, and-l, and-r}
+use Rattle.prelude.proofs.Tests.{or-left, or-right}
 use Rattle.ieee.specs.Floats.{_≼_}
 
 -- ±a is at most ±b
@@ -16,14 +17,6 @@ AtMost false a false b = a ≤ b
 AtMost false a true b = a + b ≡ 0
 AtMost true a false b = T true
 AtMost true a true b = b ≤ a
-
-or-l : (a b : Bool) → T a → T (a || b)
-or-l true b t = tt
-or-l false b t = absurd t
-
-or-r : (a b : Bool) → T b → T (a || b)
-or-r true b t = tt
-or-r false b t = t
 
 or-elim : (a b : Bool) {P : Type 0} → T (a || b) → (T a → P) → (T b → P) → P
 or-elim true b t f g = f tt
@@ -42,8 +35,8 @@ pub test : (s : Bool) (a : ℕ) (t : Bool) (b : ℕ) → AtMost s a t b → T (b
 test false a false b h = go (eq-or-lt-of-le h)
   where
     go : (a ≡ b) ⊎ (a < b) → T (below false a false b || level false a false b)
-    go (inl e) = or-r (ltb a b) (level false a false b) (and-i (eqb a b) true (eq→eqb e) tt)
-    go (inr l) = or-l (ltb a b) (level false a false b) (lt→ltb a b l)
+    go (inl e) = or-right (ltb a b) (level false a false b) (and-i (eqb a b) true (eq→eqb e) tt)
+    go (inr l) = or-left (ltb a b) (level false a false b) (lt→ltb a b l)
 test false a true b h = and-i (eqb a b) (eqb a 0) (eq→eqb (same a b h)) (eq→eqb (none a b h))
   where
     same : (a b : ℕ) → a + b ≡ 0 → a ≡ b
@@ -52,13 +45,13 @@ test false a true b h = and-i (eqb a b) (eqb a 0) (eq→eqb (same a b h)) (eq→
     none : (a b : ℕ) → a + b ≡ 0 → a ≡ 0
     none a b h = omega arith
 test true zero false zero h = tt
-test true zero false (suc b) h = or-l (ltb 0 (0 + suc b)) (level true 0 false (suc b)) (lt→ltb 0 (0 + suc b) (omega arith))
-test true (suc a) false b h = or-l (ltb 0 (suc a + b)) (level true (suc a) false b) (lt→ltb 0 (suc a + b) (omega arith))
+test true zero false (suc b) h = or-left (ltb 0 (0 + suc b)) (level true 0 false (suc b)) (lt→ltb 0 (0 + suc b) (omega arith))
+test true (suc a) false b h = or-left (ltb 0 (suc a + b)) (level true (suc a) false b) (lt→ltb 0 (suc a + b) (omega arith))
 test true a true b h = go (eq-or-lt-of-le h)
   where
     go : (b ≡ a) ⊎ (b < a) → T (below true a true b || level true a true b)
-    go (inl e) = or-r (ltb b a) (level true a true b) (and-i (eqb a b) true (eq→eqb (sym e)) tt)
-    go (inr l) = or-l (ltb b a) (level true a true b) (lt→ltb b a l)
+    go (inl e) = or-right (ltb b a) (level true a true b) (and-i (eqb a b) true (eq→eqb (sym e)) tt)
+    go (inr l) = or-left (ltb b a) (level true a true b) (lt→ltb b a l)
 
 pub scale : (s : Bool) (a : ℕ) (t : Bool) (b k : ℕ) → AtMost s a t b → AtMost s (a * k) t (b * k)
 scale false a false b k h = mul-le-mul-right k h

@@ -5,7 +5,7 @@ use Prim.Native.Nat.{ℕ, zero, suc, _+_, _-_, _*_, _/_, _%_, _^_, _≤_, _<_, m
 use native.Mathlib.Nat.{mul-lt-mul-of-pos-right, add-zero, mul-pos, le-trans, le-of-eq, le-of-lt, not-le-of-lt, zero-lt-suc, mul-one, one-mul, zero-mul, mul-assoc, mul-right-comm, mod-lt, div-one, div-lt-iff-lt-mul, div-add-mod', eq-of-mul-eq-mul-right}
 use native.Mathlib.Omega.{arith}
 use lib.IntN.{ℤ, pos, negsuc}
-use lib.Dec.{T, leb, ltb, eqb, ltb→lt, lt→ltb, nltb→le, le→leb, eqb→eq, lit<}
+use lib.Dec.{T, leb, ltb, eqb, leb→le, ltb→lt, lt→ltb, nltb→le, le→leb, eqb→eq, lit<}
 use lib.Pow.{pow-pos, pow-add}
 use lib.Arith.{digits-div}
 use lib.Ieee.{Float, nan, inf, fin, Format, binary64, prec, emax, low, up, down, odd, units, round, neg, ofInt, inFloat, toUnsigned, lt, eq, fits, ofBits}
@@ -204,21 +204,24 @@ floor-above (fin true m e) n k v h =
 
 -- ---- from 2 ^ 53 on every value is whole
 
-pub fits-says : (s : Bool) (m : ℕ) (e : ℤ) → T (fits binary64 (fin s (suc m) e)) → (suc m < 2 ^ 53) × (suc m * up e < 2 ^ 1024 * down e)
+pub fits-says : (s : Bool) (m : ℕ) (e : ℤ) → T (fits binary64 (fin s (suc m) e)) → (suc m < 2 ^ 53) × (down e ≤ 2 ^ 1074) × (suc m * up e < 2 ^ 1024 * down e)
 unfolding fits
 fits-says s m e t =
     let a : Bool = eqb (suc m % 2) 1 in
     let b : Bool = ltb (suc m) (2 ^ 53) in
     let c : Bool = leb (down e) (2 ^ 1074) in
-    let d : Bool = ltb (suc m * up e) (2 ^ 1024 * down e) in
-    (ltb→lt (suc m) (2 ^ 53) (and-r a b (and-l (a && b) c (and-l (a && b && c) d t))), ltb→lt (suc m * up e) (2 ^ 1024 * down e) (and-r (a && b && c) d t))
+    let d : Bool = ltb (suc m * up e) (2 ^ 1024 * down e) in (
+      ltb→lt (suc m) (2 ^ 53) (and-r a b (and-l (a && b) c (and-l (a && b && c) d t))),
+      leb→le (down e) (2 ^ 1074) (and-r (a && b) c (and-l (a && b && c) d t)),
+      ltb→lt (suc m * up e) (2 ^ 1024 * down e) (and-r (a && b && c) d t),
+    )
 
 pub large-is : (s : Bool) (m k : ℕ) → T (fits binary64 (fin s (suc m) (pos k))) → fin s (suc m) (pos k) ≡ round binary64 s (suc m * 2 ^ k) 1
 large-is s m k f =
     let h = fits-says s m (pos k) f in
     let a = suc m * 2 ^ k in
     let e1 : suc m * 2 ^ (k + 1074) ≡ a * 2 ^ 1074 = ap (λ (z : ℕ). suc m * z) (pow-add 2 k 1074) ∙ sym (mul-assoc (suc m) (2 ^ k) (2 ^ 1074)) in
-    let fine : suc m * 2 ^ (k + 1074) < 2 ^ (1074 + 1024) = subst (λ (z : ℕ). z < 2 ^ (1074 + 1024)) (sym e1) (mul-lt-mul-of-pos-right (h .1) (pow-pos 1074)) in
+    let fine : suc m * 2 ^ (k + 1074) < 2 ^ (1074 + 1024) = subst (λ (z : ℕ). z < 2 ^ (1074 + 1024)) (sym e1) (mul-lt-mul-of-pos-right (h .2) (pow-pos 1074)) in
     whole-unique binary64 (fin s (suc m) (pos k)) (round binary64 s a 1) s a f (round-fits binary64 s a 1) (refl, refl)
     (round-exact binary64 s a 1 (suc m) (k + 1074) (zero-lt-suc 0) (h .0) fine (sym e1 ∙ sym (mul-one (suc m * 2 ^ (k + 1074)))))
 

@@ -1,5 +1,6 @@
--- Rust's `f64` in the shape of its source: the operators in infix form, an early return, and the literals by their bit patterns. Definitions only.
--- The code's own terms are these, so that a contract that cites a definition is met by the same operations in the same order.
+-- Rust's `f64` in the shape of its source: the operators in infix form, and the literals by their
+-- bit patterns. Definitions only, to be believed. The code's own terms are these, so that a
+-- contract that cites a definition is met by the same operations in the same order.
 use Prim.Native.Nat.{ℕ}
 use mathlib.Core.Bool.{Bool, true, false}
 use lib.IntN.{pos}

@@ -1,5 +1,7 @@
--- What the functions of `ieee` compute. Definitions only.
--- A value is one of `lib.Ieee`: `nan`, an infinity `inf s`, or `fin s m e`, the number m * 2 ^ e, negative where s is true; 2 ^ e is the fraction up e / down e.
+-- What the functions of `ieee` compute: Rust's `abs`, `is_finite`, `floor`, `ceil`, `max` and
+-- `as u32` of `f64`. Definitions only, to be believed.
+-- A value is one of `lib.Ieee`: `nan`, an infinity `inf s`, or `fin s m e`, the number m * 2 ^ e,
+-- negative where s is true; 2 ^ e is the fraction up e / down e.
 use Prim.Native.Nat.{ℕ, _+_, _-_, _*_, _/_}
 use mathlib.Core.Bool.{Bool, true, false, cond}
 use lib.Ieee.{Float, nan, inf, fin, binary64, up, down, round, isNan}

@@ -1,7 +1,7 @@
 // IEEE 754's binary64, worked out from bit patterns. A value is the logic's `Float` (specs/), of which
 // each contract names the definition that its result equals. No function asks anything of its caller.
 ghost use mathlib.Core.Path.{_≡_};
-ghost use mathlib.Core.Bool.{true};
+ghost use mathlib.Core.Bool.{true, _&&_};
 ghost use lib.Ieee.{binary64, toBits, ofBits, toUnsigned};
 ghost use Rattle.ieee.specs.Floats.{f0, _≼_};
 ghost use Rattle.ieee.specs.Parts.{magnitude, isFinite, floorOf, ceilOf, maximum, splitWhole};
@@ -50,6 +50,16 @@ pub fn is_finite(x: f64) -> bool
     ensures { λ r. ⌜ r ≡ isFinite x ⌝ }
 {
     (bits_of(x) & 0x7fff_ffff_ffff_ffff) < 0x7ff0_0000_0000_0000
+}
+
+// Whether neither a nor b is a NaN or an infinity.
+pub fn both_finite(a: f64, b: f64) -> bool
+    ensures { λ r. ⌜ r ≡ (isFinite a && isFinite b) ⌝ }
+{
+    if !is_finite(a) {
+        return false;
+    }
+    is_finite(b)
 }
 
 // The larger of a and b; where one of them is a NaN, the other. Rust's `f64::max`.

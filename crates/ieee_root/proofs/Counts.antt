@@ -14,7 +14,7 @@ use lib.Ieee.Fits.{down-pos}
 use lib.Ieee.Scale.{finite}
 use lib.Ieee.Positive.{positive, positive-of-value, value-pos}
 use Rattle.ieee_root.specs.Root.{root}
-use Rattle.ieee_root.proofs.RootLaws.{Rooted, rooted, Beside, beside-all, in-units, root-fits-all}
+use Rattle.ieee_root.proofs.RootLaws.{Rooted, rooted, Beside, beside-all, in-units, root-fits}
 
 -- the magnitude of a finite value in units of 2 ^ -1074
 abbrev pub count : Float → ℕ
@@ -83,14 +83,14 @@ pub found : (x : Float) → T (fits binary64 x) → T (positive x) → Rooted x 
 found x F P = rooted x (count x) F P (positive-value x F P)
 
 -- a value above zero has a root above zero
-pub root-above : (x : Float) → T (fits binary64 x) → T (positive x) → T (positive (root binary64 x))
-root-above x F P =
+pub root-positive : (x : Float) → T (fits binary64 x) → T (positive x) → T (positive (root binary64 x))
+root-positive x F P =
     let Z = found x F P in
     positive-of-value (root binary64 x) (Z .q * 2 ^ Z .k) (2 ^ 1074) (Z .is) (mul-pos (lt-of-lt-of-le (pow-pos 52) (Z .low)) (pow-pos (Z .k)))
 
 pub beside : (x y : Float) (v : ℕ) → T (fits binary64 x) → T (positive x) → T (fits binary64 y) → HasValue y false v (2 ^ 1074) → Beside (count x * 2 ^ 1074) (count (root binary64 x)) v
 beside x y v F P G h =
-    beside-all x y (count x) (count (root binary64 x)) v F P (positive-value x F P) (positive-value (root binary64 x) (root-fits-all x F) (root-above x F P)) G h
+    beside-all x y (count x) (count (root binary64 x)) v F P (positive-value x F P) (positive-value (root binary64 x) (root-fits x F) (root-positive x F P)) G h
 
 zero-fits : T (fits binary64 (fin false 0 (pos 0)))
 unfolding fits
@@ -100,5 +100,5 @@ zero-fits = tt
 pub above-half : (x : Float) → T (fits binary64 x) → T (positive x) → count (root binary64 x) * count (root binary64 x) < 4 * (count x * 2 ^ 1074)
 above-half x F P =
     let r = count (root binary64 x) in
-    let p : 0 < r = value-pos (root binary64 x) r (2 ^ 1074) (root-above x F P) (pow-pos 1074) (positive-value (root binary64 x) (root-fits-all x F) (root-above x F P)) in
+    let p : 0 < r = value-pos (root binary64 x) r (2 ^ 1074) (root-positive x F P) (pow-pos 1074) (positive-value (root binary64 x) (root-fits x F) (root-positive x F P)) in
     subst (λ (z : ℕ). z * z < 4 * (count x * 2 ^ 1074)) (add-zero r) (beside x (fin false 0 (pos 0)) 0 F P zero-fits (refl, refl) .1 p)

@@ -6,6 +6,7 @@ use native.Mathlib.Numerals.{add-one}
 use native.Mathlib.Omega.{arith}
 use lib.Pow.{pow-mono}
 use Rattle.ieee_root.specs.Root.{NearRoot}
+use Rattle.ieee_root.proofs.Roots.{square-next}
 
 -- After i turns on A, a word of 64 digits: q * q + r is what the highest 2 * i digits of A make, with zeros after the word's end, and `rest` holds the digits that are left.
 pub record Down (A i q r rest : ℕ) : Type 0 where
@@ -87,9 +88,6 @@ some n (suc q) r e p h = omega arith
 
 pub stays : (n q r : ℕ) → q * q + r ≡ n → 0 < n → r ≤ q → NearRoot n q
 stays n q r e p h = let o : 0 < q = some n q r e p h in record { low = omega arith; high = omega arith }
-
-square-next : (q : ℕ) → (q + 1) * (q + 1) ≡ q * q + (2 * q + 1)
-square-next q = omega (arith, add-mul q 1 (q + 1), mul-add q q 1)
 
 pub goes-up : (n q r : ℕ) → q * q + r ≡ n → r ≤ 2 * q → q < r → NearRoot n (q + 1)
 goes-up n q r e k h = record { low = omega (arith, square-next q); high = omega (arith, square-next q) }

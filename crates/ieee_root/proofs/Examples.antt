@@ -41,6 +41,6 @@ minus-infinity : root binary64 (inf true) ≡ nan
 unfolding root
 minus-infinity = refl
 
-infinity : root binary64 (inf false) ≡ inf false
+pub infinity : root binary64 (inf false) ≡ inf false
 unfolding root
 infinity = refl

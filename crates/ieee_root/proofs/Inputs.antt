@@ -14,8 +14,10 @@ use lib.Ieee.Bits.{ofBits-toBits}
 use lib.Ieee.Exact.{HasValue, odd-sign}
 use lib.Ieee.Fits.{down-pos, up-pos, eq→eqb, and-l, and-i}
 use lib.Ieee.Positive.{positive, above, first-pos, value-pos}
+use Rattle.prelude.proofs.Tests.{or-right}
 use Rattle.ieee_root.specs.Root.{root, rootUnits}
 use Rattle.ieee.proofs.Patterns.{yes, no, ofBits-is}
+use Rattle.ieee_root.proofs.Examples.{infinity}
 
 abbrev zero-float : Float
 zero-float = fin false 0 (pos 0)
@@ -54,14 +56,10 @@ root-zero (fin s (suc m) e) h = absurd (none (suc m * up e) (down e) (mul-pos' m
 
 zero-equals : (s : Bool) (e : ℤ) → T (eq (fin s 0 e) zero-float)
 unfolding eq
-zero-equals s e = and-i (eqb (0 * up e * 1) (0 * down e)) (Bool·beq s false || eqb (0 * up e * 1) 0) (eq→eqb (none ∙ sym (zero-mul (down e)))) (or-r (Bool·beq s false) (eqb (0 * up e * 1) 0) (eq→eqb none))
+zero-equals s e = and-i (eqb (0 * up e * 1) (0 * down e)) (Bool·beq s false || eqb (0 * up e * 1) 0) (eq→eqb (none ∙ sym (zero-mul (down e)))) (or-right (Bool·beq s false) (eqb (0 * up e * 1) 0) (eq→eqb none))
   where
     none : 0 * up e * 1 ≡ 0
     none = mul-one (0 * up e) ∙ zero-mul (up e)
-
-    or-r : (a b : Bool) → T b → T (a || b)
-    or-r true b t = tt
-    or-r false b t = t
 
 pub root-none : (x : Float) → lt zero-float x ≡ false → eq x zero-float ≡ false → nan ≡ root binary64 x
 unfolding lt root
@@ -135,10 +133,6 @@ root-of-value (fin false (suc m) e) a p h =
     (ap (λ (z : ℕ). z / down e)
     (ap (λ (z : ℕ). suc m * up e * z) (pow-add 2 1074 1074) ∙ sym (mul-assoc (suc m * up e) (2 ^ 1074) (2 ^ 1074)) ∙ ap (λ (z : ℕ). z * 2 ^ 1074) (h .1) ∙ mul-right-comm a (down e) (2 ^ 1074))
     ∙ mul-div-cancel (a * 2 ^ 1074) (down-pos e))
-
-infinity : root binary64 (inf false) ≡ inf false
-unfolding root
-infinity = refl
 
 -- ---- what the code's tests on the pattern say
 
@@ -229,6 +223,9 @@ module _ (x : Float) (F : T (fits binary64 x)) (A : T (above x)) where
 
 pub digits-are : (b : ℕ) → bitOr (bitAnd b (2 ^ 52 - 1)) (2 ^ 52) ≡ 2 ^ 52 + b % 2 ^ 52
 digits-are b = ap (λ (k : ℕ). bitOr k (2 ^ 52)) (and-mask b 52) ∙ or-shifted-r 1 52 (b % 2 ^ 52) (mod-lt b (pow-pos 52))
+
+pub digits-between : (b : ℕ) → (2 ^ 52 ≤ 2 ^ 52 + b % 2 ^ 52) × (2 ^ 52 + b % 2 ^ 52 < 2 ^ 53)
+digits-between b = omega arith
 
 -- ---- a subnormal value's digits, shifted up to the place of a leading one
 

@@ -4,7 +4,7 @@ use mathlib.Core.Path.{_≡_, refl, sym, ap, _∙_, subst}
 use mathlib.Core.Logic.{_⊎_, inl, inr}
 use mathlib.Core.Bool.{Bool, true, false, _&&_}
 use Prim.Native.Nat.{ℕ, zero, suc, _+_, _-_, _*_, _/_, _%_, _^_, _≤_, _<_}
-use native.Mathlib.Nat.{le-trans, le-of-eq, le-of-lt, lt-of-lt-of-le, lt-of-le-of-lt, lt-of-not-le, not-le-of-lt, lt-irrefl, zero-lt-suc, mul-one, zero-mul, mul-comm, mul-assoc, mul-left-comm, add-mul, mul-le-mul-left, mul-le-mul-right, mul-lt-mul-of-pos-right, lt-of-mul-lt-mul-right, eq-of-mul-eq-mul-right, mul-pos, eq-or-lt-of-le}
+use native.Mathlib.Nat.{le-trans, le-of-eq, le-of-lt, lt-of-lt-of-le, lt-of-le-of-lt, lt-of-not-le, not-le-of-lt, lt-irrefl, zero-lt-suc, sub-add-cancel, mul-one, zero-mul, mul-comm, mul-assoc, mul-left-comm, add-mul, mul-le-mul-left, mul-le-mul-right, mul-lt-mul-of-pos-right, lt-of-mul-lt-mul-right, eq-of-mul-eq-mul-right, mul-pos, eq-or-lt-of-le}
 use native.Mathlib.Numerals.{add-one}
 use native.Mathlib.Decide.{decLe}
 use native.Mathlib.Omega.{arith}
@@ -16,9 +16,10 @@ use lib.Ieee.{Float, nan, inf, fin, binary64, up, down, units, fits, toBits}
 use lib.Ieee.Exact.{HasValue}
 use lib.Ieee.Fits.{down-pos, and-l, and-r}
 use lib.Ieee.Positive.{positive, above, value-pos}
+use Rattle.ieee.proofs.Whole.{fits-says}
 use Rattle.ieee_root.specs.Root.{root, rootBy, rootUnits, NearRoot}
-use Rattle.ieee_root.proofs.Inputs.{Reading, subnormal, normal, infinite, reading, root-of-value, lifted, lifted-same}
-use Rattle.ieee_root.proofs.Roots.{square-next, square-middle, square-mono, Floor, rootBy-is, root-units, units-value, units-fits}
+use Rattle.ieee_root.proofs.Inputs.{Reading, subnormal, normal, infinite, reading, root-of-value, digits-between, lifted, lifted-same}
+use Rattle.ieee_root.proofs.Roots.{square-twice, square-next, square-middle, square-mono, Floor, rootBy-is, root-units, units-value, units-fits}
 use Rattle.ieee_root.proofs.Scaled.{shifted, n-low, n-lt, k-high, scaled, r-low, r-high}
 
 -- ---- one number of units
@@ -57,11 +58,8 @@ normalised x a F P U = go (reading x F (positive-above x P))
         high z = omega arith
     go (normal s j f n p v) =
         let m = 2 ^ 52 + toBits binary64 x % 2 ^ 52 in
-        (m, j + 1074, under (toBits binary64 x) .0, under (toBits binary64 x) .1, low j, high (toBits binary64 x) j f n, ap (λ (c : ℕ). c * 2 ^ 1074) (one-value x a (m * 2 ^ j) (2 ^ 1074) U v) ∙ mul-assoc m (2 ^ j) (2 ^ 1074) ∙ ap (λ (c : ℕ). m * c) (sym (pow-add 2 j 1074)))
+        (m, j + 1074, digits-between (toBits binary64 x) .0, digits-between (toBits binary64 x) .1, low j, high (toBits binary64 x) j f n, ap (λ (c : ℕ). c * 2 ^ 1074) (one-value x a (m * 2 ^ j) (2 ^ 1074) U v) ∙ mul-assoc m (2 ^ j) (2 ^ 1074) ∙ ap (λ (c : ℕ). m * c) (sym (pow-add 2 j 1074)))
       where
-        under : (y : ℕ) → (2 ^ 52 ≤ 2 ^ 52 + y % 2 ^ 52) × (2 ^ 52 + y % 2 ^ 52 < 2 ^ 53)
-        under y = omega arith
-
         low : (j : ℕ) → 1022 ≤ j + 1074
         low j = omega arith
 
@@ -136,15 +134,6 @@ rooted x a F P U =
 abbrev Point : ℕ → Type 0
 Point n = (m : ℕ) × (j : ℕ) × (m < 2 ^ 53) × (n ≡ m * 2 ^ j)
 
-fits-says : (s : Bool) (m : ℕ) (e : ℤ) → T (fits binary64 (fin s (suc m) e)) → (suc m < 2 ^ 53) × (down e ≤ 2 ^ 1074)
-unfolding fits
-fits-says s m e t =
-    let a : Bool = eqb (suc m % 2) 1 in
-    let b : Bool = ltb (suc m) (2 ^ 53) in
-    let c : Bool = leb (down e) (2 ^ 1074) in
-    let d : Bool = ltb (suc m * up e) (2 ^ 1024 * down e) in
-    (ltb→lt (suc m) (2 ^ 53) (and-r a b (and-l (a && b) c (and-l (a && b && c) d t))), leb→le (down e) (2 ^ 1074) (and-r (a && b) c (and-l (a && b && c) d t)))
-
 pow-le-back : (i p : ℕ) → 2 ^ i ≤ 2 ^ p → i ≤ p
 pow-le-back i p h = go (decLe i p)
   where
@@ -166,23 +155,17 @@ point (fin s (suc m) (negsuc k)) n F h =
       eq-of-mul-eq-mul-right (2 ^ suc k) (pow-pos (suc k)) n (suc m * 2 ^ j)
           (sym (h .1)
           ∙ ap (λ (z : ℕ). z * 2 ^ 1074) (mul-one (suc m))
-          ∙ ap (λ (z : ℕ). suc m * 2 ^ z) (sym (back (suc k) K))
+          ∙ ap (λ (z : ℕ). suc m * 2 ^ z) (sym (sub-add-cancel K))
           ∙ ap (λ (z : ℕ). suc m * z) (pow-add 2 j (suc k))
           ∙ sym (mul-assoc (suc m) (2 ^ j) (2 ^ suc k))),
     )
-  where
-    back : (i : ℕ) → i ≤ 1074 → 1074 - i + i ≡ 1074
-    back i h = omega arith
 
 -- from 2 ^ (52 + k) units on each is a multiple of 2 ^ k
 multiple : (n k : ℕ) → Point n → 2 ^ 52 * 2 ^ k ≤ n → (u : ℕ) × (n ≡ u * 2 ^ k)
 multiple n k P h = go (decLe k (P .1))
   where
     go : Dec (k ≤ P .1) → (u : ℕ) × (n ≡ u * 2 ^ k)
-    go (yes l) = (P .0 * 2 ^ (P .1 - k), P .3 ∙ ap (λ (z : ℕ). P .0 * 2 ^ z) (sym (back (P .1) k l)) ∙ ap (λ (z : ℕ). P .0 * z) (pow-add 2 (P .1 - k) k) ∙ sym (mul-assoc (P .0) (2 ^ (P .1 - k)) (2 ^ k)))
-      where
-        back : (j k : ℕ) → k ≤ j → j - k + k ≡ j
-        back j k h = omega arith
+    go (yes l) = (P .0 * 2 ^ (P .1 - k), P .3 ∙ ap (λ (z : ℕ). P .0 * 2 ^ z) (sym (sub-add-cancel l)) ∙ ap (λ (z : ℕ). P .0 * z) (pow-add 2 (P .1 - k) k) ∙ sym (mul-assoc (P .0) (2 ^ (P .1 - k)) (2 ^ k)))
     go (no f) =
         absurd
         (lt-irrefl n
@@ -245,13 +228,10 @@ module _ (n q k v : ℕ) (N : NearRoot n q) where
   just-under : q * q ≤ n → v < r → (r + v) * (r + v) < 4 * (n * 2 ^ (2 * k))
   just-under l h =
       lt-of-lt-of-le (square-lt (r + v) (2 * r) (less r v h))
-      (le-trans (le-of-eq (square-of r)) (le-trans (mul-le-mul-left 4 (le-trans (le-of-eq (times-square q c)) (mul-le-mul-right (c * c) l))) (le-of-eq (sym (mul-assoc 4 n (c * c)) ∙ sym four))))
+      (le-trans (le-of-eq (square-twice r)) (le-trans (mul-le-mul-left 4 (le-trans (le-of-eq (times-square q c)) (mul-le-mul-right (c * c) l))) (le-of-eq (sym (mul-assoc 4 n (c * c)) ∙ sym four))))
     where
       less : (r v : ℕ) → v < r → r + v < 2 * r
       less r v h = omega arith
-
-      square-of : (r : ℕ) → 2 * r * (2 * r) ≡ 4 * (r * r)
-      square-of r = simp (mul-assoc, mul-comm, mul-left-comm) (omega arith)
 
       square-lt : (a b : ℕ) → a < b → a * a < b * b
       square-lt a b h = lt-of-lt-of-le (omega (arith, square-next a)) (square-mono (le-trans (le-of-eq (add-one a)) h))
@@ -337,21 +317,18 @@ in-units m e F = go (point-of e F)
         let j = 1074 - suc k in (
           suc m * 2 ^ j,
           ap (λ (z : ℕ). z * 2 ^ 1074) (mul-one (suc m))
-              ∙ ap (λ (z : ℕ). suc m * 2 ^ z) (sym (back (suc k) (pow-le-back (suc k) 1074 (fits-says false m (negsuc k) F .1))))
+              ∙ ap (λ (z : ℕ). suc m * 2 ^ z) (sym (sub-add-cancel (pow-le-back (suc k) 1074 (fits-says false m (negsuc k) F .1))))
               ∙ ap (λ (z : ℕ). suc m * z) (pow-add 2 j (suc k))
               ∙ sym (mul-assoc (suc m) (2 ^ j) (2 ^ suc k)),
         )
-      where
-        back : (i : ℕ) → i ≤ 1074 → 1074 - i + i ≡ 1074
-        back i h = omega arith
 
     go : (a : ℕ) × (suc m * up e * 2 ^ 1074 ≡ a * down e) → HasValue (fin false (suc m) e) false (suc m * up e * 2 ^ 1074 / down e) (2 ^ 1074)
     go p = (refl, p .1 ∙ ap (λ (z : ℕ). z * down e) (sym (ap (λ (z : ℕ). z / down e) (p .1) ∙ native.Mathlib.Nat.mul-div-cancel (p .0) (down-pos e))))
 
-pub root-fits-all : (x : Float) → T (fits binary64 x) → T (fits binary64 (root binary64 x))
+pub root-fits : (x : Float) → T (fits binary64 x) → T (fits binary64 (root binary64 x))
 unfolding root
-root-fits-all nan F = F
-root-fits-all (inf s) F = cond-fits s
-root-fits-all (fin s zero e) F = F
-root-fits-all (fin true (suc m) e) F = lib.Ieee.Fits.nan-fits binary64
-root-fits-all (fin false (suc m) e) F = held-root (fin false (suc m) e) (suc m * up e * 2 ^ 1074 / down e) F (lib.Dec.lt→ltb 0 (suc m) (zero-lt-suc m)) (in-units m e F)
+root-fits nan F = F
+root-fits (inf s) F = cond-fits s
+root-fits (fin s zero e) F = F
+root-fits (fin true (suc m) e) F = lib.Ieee.Fits.nan-fits binary64
+root-fits (fin false (suc m) e) F = held-root (fin false (suc m) e) (suc m * up e * 2 ^ 1074 / down e) F (lib.Dec.lt→ltb 0 (suc m) (zero-lt-suc m)) (in-units m e F)

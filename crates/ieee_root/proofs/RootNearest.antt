@@ -1,4 +1,5 @@
--- `root` is IEEE 754's square root. The root of a value of binary64 above zero is a value of binary64, and every other value of binary64 lies strictly farther from the true root.
+-- `root` is IEEE 754's square root. The root of a value of binary64 above zero is a value of binary64 above zero (`root-fits` in RootLaws,
+-- `root-positive` in Counts), and every other value of binary64 lies strictly farther from the true root.
 -- Why: the true root has 53 leading digits q and a rest. Values of the format near it are multiples of one power of two, so only the two multiples around the root matter, and the
 -- definition picks between them by the square of their middle. No root lies on a middle: a middle has one digit more than the format, and its square more digits than a value has.
 -- Numbers are counted in units of 2 ^ -1074, the smallest value. So x is `count x` units (Counts.antt), and its true root is the square root of `count x * 2 ^ 1074`. Assumes nothing.
@@ -16,17 +17,8 @@ use lib.Ieee.Scale.{finite}
 use lib.Ieee.Positive.{positive, positive-finite}
 use Rattle.ieee_root.specs.Root.{root}
 use Rattle.ieee_root.proofs.Roots.{square-mono}
-use Rattle.ieee_root.proofs.RootLaws.{Beside, half-unit, root-fits-all}
-use Rattle.ieee_root.proofs.Counts.{count, negative, count-exact, count-tells, count-of, positive-sign, found, root-above, beside, above-half}
-
--- ---- the root is a value of the format
-
-pub root-fits : (x : Float) → T (fits binary64 x) → T (fits binary64 (root binary64 x))
-root-fits x F = root-fits-all x F
-
--- and above zero where x is
-pub root-positive : (x : Float) → T (fits binary64 x) → T (positive x) → T (positive (root binary64 x))
-root-positive x F P = root-above x F P
+use Rattle.ieee_root.proofs.RootLaws.{Beside, half-unit, root-fits}
+use Rattle.ieee_root.proofs.Counts.{count, negative, count-exact, count-tells, count-of, positive-sign, found, root-positive, beside, above-half}
 
 -- ---- the root is nearer than any other value
 
@@ -49,7 +41,7 @@ root-nearest x (fin true m e) F P G Q D = lt-of-le-of-lt (square-mono (less (cou
 root-nearest x (fin false m e) F P G Q D = go (count (root binary64 x)) (count (fin false m e)) (beside x (fin false m e) (count (fin false m e)) F P G (count-exact (fin false m e) G tt)) other
   where
     other : count (fin false m e) ≡ count (root binary64 x) → ⊥
-    other h = D (count-tells (fin false m e) (root binary64 x) G (root-fits-all x F) tt (positive-finite (root binary64 x) (root-above x F P)) (positive-sign (root binary64 x) (root-above x F P)) h)
+    other h = D (count-tells (fin false m e) (root binary64 x) G (root-fits x F) tt (positive-finite (root binary64 x) (root-positive x F P)) (positive-sign (root binary64 x) (root-positive x F P)) h)
 
     go : (r v : ℕ) → Beside (count x * 2 ^ 1074) r v → (v ≡ r → ⊥) → Nearer (count x * 2 ^ 1074) r false v
     go r v B d = pick (decLe v r)

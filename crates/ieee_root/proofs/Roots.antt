@@ -18,7 +18,7 @@ use Rattle.ieee_root.specs.Root.{rootBy, rootUnits, NearRoot}
 
 -- ---- squares
 
-square-twice : (q : ℕ) → 2 * q * (2 * q) ≡ 4 * (q * q)
+pub square-twice : (q : ℕ) → 2 * q * (2 * q) ≡ 4 * (q * q)
 square-twice q = simp (mul-assoc, mul-comm, mul-left-comm) (omega arith)
 
 pub square-next : (q : ℕ) → (q + 1) * (q + 1) ≡ q * q + (2 * q + 1)

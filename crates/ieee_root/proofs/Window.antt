@@ -7,6 +7,7 @@ use lib.Pow.{split}
 use lib.Dec.{lit<}
 use lib.Bits.{bitAnd, and-mask}
 use Rattle.ieee_root.specs.Root.{NearRoot}
+use Rattle.ieee_root.proofs.Roots.{square-next}
 
 -- ---- the parts, as the code works them out: u and l are t's halves, and t * t is hi * 2 ^ 52 + lo
 abbrev pub upper : ℕ → ℕ
@@ -96,9 +97,6 @@ module _ (a t : ℕ) (S : Square t) where
 near : (n t j c d : ℕ) → (t + j) * (t + j) ≡ t * t + c + d → t * t + c + d < n + (t + j) → n ≤ t * t + c + d + (t + j) → NearRoot n (t + j)
 near n t j c d e l h = record { low = omega arith; high = omega arith }
 
-plus-one : (t : ℕ) → (t + 1) * (t + 1) ≡ t * t + 2 * t + 1
-plus-one t = omega (arith, mul-add (t + 1) t 1, add-mul t 1 t)
-
 plus-two : (t : ℕ) → (t + 2) * (t + 2) ≡ t * t + 4 * t + 4
 plus-two t = omega (arith, mul-add (t + 2) t 2, add-mul t 2 t)
 
@@ -109,7 +107,7 @@ pub near-one : (a t : ℕ) → Square t → hi t + (lo t + t) / 2 ^ 52 < a → a
 near-one a t S l h = go (a * 2 ^ 52) (over-first a t S l) (upto a t S (3 * t) 2 h)
   where
     go : (n : ℕ) → t * t + t < n → n ≤ t * t + 3 * t + 2 → NearRoot n (t + 1)
-    go n l h = near n t 1 (2 * t) 1 (plus-one t) (omega arith) (omega arith)
+    go n l h = near n t 1 (2 * t) 1 (omega (arith, square-next t)) (omega arith) (omega arith)
 
 pub near-two : (a t : ℕ) → Square t → hi t + (lo t + 3 * t + 2) / 2 ^ 52 < a → a ≤ hi t + (lo t + 5 * t + 6) / 2 ^ 52 → NearRoot (a * 2 ^ 52) (t + 2)
 near-two a t S l h = go (a * 2 ^ 52) (over a t S (3 * t) 2 l) (upto a t S (5 * t) 6 h)

@@ -1,5 +1,6 @@
--- The job that a well formed card asks for: a request, modules, and a photograph, read from the contents of its fields. Definitions only. They are total,
--- and mean nothing of a card that is not well formed, which is refused before they are asked for.
+-- The job that a well formed card asks for: a request, modules, and a photograph, read from the
+-- contents of its fields. Definitions only, to be believed. They are total, and mean nothing of a
+-- card that is not well formed, which is refused before they are asked for.
 use Prim.Native.Nat.{ℕ, _+_}
 use mathlib.Core.List.{List, [], _∷_}
 use lib.Dec.{eqb}

@@ -1,6 +1,8 @@
--- The job card: which cards are well formed, where each field lies, and what the field finder hands back. Definitions only. A card is a list of bytes;
--- every definition is total: where a field is not there its place and contents mean nothing, and only `hasField` asks for them.
---   1 width, height, stride   2 photograph   3 dim, grid   4 sx, sy   5 corners   6 polarity   7 source then rectified intrinsics   8 lens
+-- The job card: which cards are well formed, where each field lies, and what the field finder hands
+-- back. Definitions only, to be believed. A card is a list of bytes; every definition is total: where
+-- a field is not there its place and contents mean nothing, and only `hasField` asks for them.
+--   1 width, height, stride   2 photograph   3 dim, grid   4 sx, sy   5 corners   6 polarity
+--   7 source then rectified intrinsics   8 lens
 use Prim.Native.Nat.{ℕ, zero, suc, _+_, _-_}
 use mathlib.Core.Bool.{Bool, true, not, _&&_, _||_}
 use mathlib.Core.List.{List, []}

@@ -1,8 +1,7 @@
 // line.rs: the weighted total-least-squares line, and the crossing of two lines.
 ghost use mathlib.Core.Path.{_≡_};
-ghost use mathlib.Core.Bool.{not, _&&_};
+ghost use mathlib.Core.Bool.{not};
 ghost use lib.ListN.{length};
-ghost use Rattle.ieee.specs.Parts.{isFinite};
 ghost use Rattle.ieee.specs.Floats.{_⊗_, _≺_, f0};
 ghost use Rattle.line.specs.Sums.{at, sumTo, allTo};
 ghost use Rattle.line.specs.Line.{
@@ -178,16 +177,6 @@ fn direction_of(m: Moments) -> Direction
     half_angle_direction(a, b, h)
 }
 
-// Whether neither of two values is a NaN or an infinity.
-fn both_finite(x: f64, y: f64) -> bool
-    ensures { λ r. ⌜ r ≡ (isFinite x && isFinite y) ⌝ }
-{
-    if !ieee::is_finite(x) {
-        return false;
-    }
-    ieee::is_finite(y)
-}
-
 // The line through c along the principal direction of the moments, or 10 or 11.
 fn fit_moments(c: SourcePixel, m: Moments) -> Fitted
     ensures { λ r. ⌜ r ≡ fitMoments c m ⌝ }
@@ -195,11 +184,11 @@ fn fit_moments(c: SourcePixel, m: Moments) -> Fitted
     if m.sxx + m.syy <= EPSILON {
         return Fitted::Refused(number::LINE);
     }
-    if !both_finite(c.0, c.1) {
+    if !ieee::both_finite(c.0, c.1) {
         return Fitted::Refused(number::OVERFLOW);
     }
     let d = direction_of(m);
-    if !both_finite(d.x, d.y) {
+    if !ieee::both_finite(d.x, d.y) {
         return Fitted::Refused(number::OVERFLOW);
     }
     Fitted::Along(Line2 {

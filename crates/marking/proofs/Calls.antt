@@ -8,7 +8,7 @@ use borrow.Author.Tests.{eq-eqb, ne-eqb}
 use Rattle.number.specs.Numbers as number
 use Rattle.photograph.specs.Photographs.{Photo, goodSize}
 use Rattle.footprint.specs.declared.Scene.{Scene}
-use Rattle.photograph.proofs.Sizes.{size-checked}
+use Rattle.photograph.proofs.Photographs.{size-checked}
 use Rattle.sample_tree.specs.declared.Meter.{Meter}
 use Rattle.sample_tree.specs.SampleTree.{SampleTree}
 use Rattle.sample_tree.specs.Run.{Ran, ran, run, State, state, sampler, Runs}

@@ -15,7 +15,7 @@ use Rattle.number.specs.Numbers as number
 use Rattle.photograph.specs.Photographs.{Photo, pixel}
 use Rattle.pixel.proofs.Places.{place-lt}
 use Rattle.photograph.proofs.Pixels.{Inside}
-use Rattle.photograph.proofs.Sizes.{Sized, size-checked}
+use Rattle.photograph.proofs.Photographs.{Sized, size-checked, good-rows}
 use Rattle.sample_tree.specs.SampleTree.{SampleTree, value}
 use Rattle.sample_tree.specs.Sheets.{isRead, sheet, copy}
 use Rattle.sample_tree.proofs.Inside.{reads-inside}
@@ -29,7 +29,7 @@ use Rattle.refine.specs.Refine.{Photograph, sourceCorners, planOf, sceneOf, sho
 use Rattle.marking.specs.Marking.{area, markingEntry, markingNumber, refineMarking, sheetAfter, copyAfter}
 use Rattle.marking.specs.Demand3.{Call, readsIn, at, SameMarks, AgreesWhereMarked, OverTheCopy, Demand3}
 use Rattle.refine.proofs.Checks.{photograph-passes, other-photograph}
-use Rattle.marking.proofs.Entered.{good-rows, entered, enters-marking}
+use Rattle.marking.proofs.Entered.{entered, enters-marking}
 
 -- ---- lists
 

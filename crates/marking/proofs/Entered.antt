@@ -1,8 +1,6 @@
 -- The entry checks of a marking call: the seventh comes behind those of the refinement call, and which calls pass all. Assumes nothing.
-use mathlib.Core.Path.{_≡_, refl, sym, ap, _∙_, subst}
-use Prim.Native.Nat.{ℕ, suc, _+_, _-_, _*_, _≤_, _<_}
-use native.Mathlib.Nat.{mul-comm, suc-mul, le-refl}
-use native.Mathlib.Omega.{arith}
+use mathlib.Core.Path.{_≡_, refl, sym, _∙_}
+use Prim.Native.Nat.{ℕ, _≤_, _<_}
 use mathlib.Core.Bool.{true, _&&_}
 use mathlib.Core.List.{List, [], _∷_}
 use lib.Dec.{leb, eqb}
@@ -12,21 +10,9 @@ use Rattle.prelude.specs.Checks.{check}
 use Rattle.prelude.proofs.Tests.{both}
 use Rattle.prelude.specs.Prelude.{if_then_else_}
 use Rattle.number.specs.Numbers as number
-use Rattle.photograph.specs.Photographs.{goodPhotograph}
-use Rattle.photograph.proofs.Sizes.{Sized}
 use Rattle.refine.specs.declared.Request.{Request}
 use Rattle.refine.specs.Refine.{Photograph, entryChecks, entry}
 use Rattle.marking.specs.Marking.{area, markingEntry}
-
--- width × height bytes or more, in rows of width bytes, pass check 2
-pub good-rows : (w h n : ℕ) → Sized w h → w * h ≤ n → goodPhotograph w h w n ≡ true
-unfolding goodPhotograph
-good-rows w h n size enough =
-    let rows : w * h ≡ (h - 1) * w + w = mul-comm w h ∙ ap (λ (k : ℕ). k * w) (one-less h (size .high)) ∙ suc-mul (h - 1) w in
-    rw (le-leb w w (le-refl w), le-leb w 65535 (omega arith), le-leb ((h - 1) * w + w) n (subst (λ (k : ℕ). k ≤ n) rows enough))
-  where
-    one-less : (h : ℕ) → 1 ≤ h → h ≡ suc (h - 1)
-    one-less h k = omega arith
 
 -- ---- check 7
 

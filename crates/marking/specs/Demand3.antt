@@ -1,5 +1,7 @@
--- Demand 3: what two marking calls over one request tell of each other, as they return and leave the sheets and copies that they were lent.
--- Definitions only: `demand-3` in proofs/Demand3 proves it of every request, so with and without a camera, refused behind the entry checks or not.
+-- Demand 3: what two marking calls over one request tell of each other, as they return and leave the
+-- sheets and copies that they were lent. Definitions only, to be believed: `demand-3` in
+-- proofs/Demand3 proves it of every request, so with and without a camera, refused behind the entry
+-- checks or not.
 use mathlib.Core.Path.{_≡_}
 use mathlib.Core.Logic.{_↔_}
 use Prim.Native.Nat.{ℕ, _+_, _*_, _≤_, _<_}

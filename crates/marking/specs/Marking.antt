@@ -1,4 +1,6 @@
--- The marking calls: entry check 7, what they return, and what they leave in the sheet and the copy that they are lent. Definitions only.
+-- The marking calls: entry check 7, what they return, and what they leave in the sheet and the copy
+-- that they are lent. Definitions only, to be believed; `RunsMarked` and `Ready` are internal, what
+-- the function behind the checks promises and asks.
 use mathlib.Core.Path.{_≡_}
 use Prim.Native.Nat.{ℕ, _*_, _≤_}
 use mathlib.Core.Bool.{true, _&&_}

@@ -1,1 +1,2 @@
+-- What the contracts of every crate that refuses cite.
 pub mod Numbers

@@ -1,4 +1,4 @@
--- The numbers of document 01, each under its word there. Definitions only.
+-- The numbers of document 01, each under its word there. Definitions only, to be believed.
 use Prim.Native.Nat.{ℕ}
 
 -- an answer

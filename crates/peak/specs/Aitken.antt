@@ -1,5 +1,5 @@
--- refine.rs, where the three passes of an edge point tend: their projections on the normal, Aitken's step, and the third
--- point moved by it (398 to 415). Definitions only. `opened` is internal.
+-- refine.rs, where the three passes of an edge point tend: their projections on the normal, Aitken's
+-- step, and the third point moved by it (398 to 415). Definitions only, to be believed.
 use mathlib.Core.Bool.{not, _||_}
 use mathlib.Core.List.{List}
 use lib.ListN.{getD}

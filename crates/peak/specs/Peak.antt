@@ -1,5 +1,6 @@
--- refine.rs, the peak of a profile: the gradients of its seven samples, their unfolding, the one that counts and the
--- vertex there (268 to 323). Definitions only. `opened` is internal.
+-- refine.rs, the peak of a profile: the gradients of its seven samples, their unfolding, the one
+-- that counts and the vertex there (268 to 323). Definitions only, to be believed; `innerGradients`
+-- is internal, the five that the code works out at once.
 use Prim.Native.Nat.{ℕ, zero, suc, _+_, _-_}
 use mathlib.Core.Bool.{Bool, not, _&&_, _||_}
 use mathlib.Core.List.{List}

@@ -1,5 +1,5 @@
 -- What the proofs of `photograph`, and of the crates above it, share.
 pub mod Pixels
-pub mod Sizes
+pub mod Photographs
 -- the definitions opened together
 pub mod Opened

@@ -1,4 +1,6 @@
--- Places and directions, as the definitions write them, and the division into source pixels. Definitions only.
+-- Places and directions, as the definitions write them, and the division of a working pixel by the
+-- scales. What comes of it is a source pixel, or with a camera a rectified one. Definitions only, to
+-- be believed.
 use Prim.Native.Nat.{ℕ}
 use mathlib.Core.List.{List}
 use lib.ListN.{getD}

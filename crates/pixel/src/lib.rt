@@ -1,5 +1,6 @@
-// The two pixel scales, directions, and edge points. The geometry of the refinement is in source pixels: where the
-// Rust has `[f64; 2]` for a place, this has `SourcePixel`.
+// The two pixel scales, directions, and edge points. The geometry of the refinement is in source pixels, those of the
+// photograph, or with a camera in rectified pixels, those of the picture that it rectifies to: where the Rust has
+// `[f64; 2]` for a place, this has `SourcePixel`.
 ghost use mathlib.Core.Path.{_≡_};
 ghost use Rattle.pixel.specs.Pixels.{toSource};
 
@@ -22,7 +23,8 @@ pub struct EdgePoint {
 }
 
 impl WorkingPixel {
-    // The only way from one scale to the other: sx and sy are working pixels for each source pixel.
+    // The only way from one scale to the other: sx and sy are working pixels for each source pixel, or with a camera
+    // for each rectified pixel.
     pub fn to_source(self, sx: f64, sy: f64) -> SourcePixel
         ensures { λ r. ⌜ r ≡ toSource sx sy self ⌝ }
     {

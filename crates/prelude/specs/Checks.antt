@@ -1,5 +1,6 @@
--- Ordered checks: each has the number by which it refuses, and the first that fails decides. Entry checks and leaf calls are lists of these. Definitions only;
--- '0 exactly when all pass' and 'more checks behind' are in proofs/Checks.
+-- Ordered checks: each has the number by which it refuses, and the first that fails decides. Entry
+-- checks and leaf calls are lists of these. Definitions only, to be believed; `allPass` and
+-- `numbered` are what the laws in proofs/Checks say of such a list.
 use Prim.Native.Nat.{ℕ}
 use mathlib.Core.Bool.{Bool, true, not, _&&_}
 use mathlib.Core.List.{List, [], _∷_}

@@ -1,4 +1,5 @@
--- General pieces that the library lacks: a choice that reads as the Rust's early returns, a truth value as a number, and a list made by a rule. Definitions only.
+-- General pieces that the library lacks: a choice that reads as the Rust's early returns, a truth
+-- value as a number, and a list made by a rule. Definitions only, to be believed.
 use Prim.Native.Nat.{ℕ, zero, suc}
 use mathlib.Core.Bool.{Bool, true, false}
 use mathlib.Core.List.{List, [], _∷_}

@@ -27,11 +27,11 @@ module _ (normal : Direction) (step : Float) where
   rest : SourcePixel → ℕ → ℕ → List Float → Sampled → SampleTree (Option (List Float))
   rest c n k got r = elim r [ Luma v ↦ sampleProfile normal step c n (suc k) (got ++ v ∷ []) | Outside ↦ done none ]
 
-  gather-most : (c : SourcePixel) (n k : ℕ) (got : List Float) → AtMost n (sampleProfile normal step c n k got)
+  sample-profile-most : (c : SourcePixel) (n k : ℕ) (got : List Float) → AtMost n (sampleProfile normal step c n k got)
   unfolding sampleProfile rest
-  gather-most c zero k got = most-done 0 (some got)
-  gather-most c (suc n) k got =
-      most-sample n (offsetAlong normal step c (float k ⊖ f3)) (rest c n k got) (each (λ v. gather-most c n (suc k) (got ++ v ∷ [])))
+  sample-profile-most c zero k got = most-done 0 (some got)
+  sample-profile-most c (suc n) k got =
+      most-sample n (offsetAlong normal step c (float k ⊖ f3)) (rest c n k got) (each (λ v. sample-profile-most c n (suc k) (got ++ v ∷ [])))
     where
       each : ((v : Float) → AtMost n (sampleProfile normal step c n (suc k) (got ++ v ∷ []))) → (r : Sampled) → AtMost n (rest c n k got r)
       each f (Luma v) = f v
@@ -41,7 +41,7 @@ module _ (settings : Settings) (ray : Ray) where
   pass-most : (c : SourcePixel) → AtMost 7 (pass settings ray c)
   unfolding pass profile
   pass-most c =
-      most-bind 7 0 (profile (ray .normal) (ray .step) c) (λ s. done (passed settings ray c s)) (gather-most (ray .normal) (ray .step) c 7 0 [])
+      most-bind 7 0 (profile (ray .normal) (ray .step) c) (λ s. done (passed settings ray c s)) (sample-profile-most (ray .normal) (ray .step) c 7 0 [])
       (λ s. most-done 0 (passed settings ray c s))
 
   then-most : (n : ℕ) (f : EdgePoint → SampleTree Located) → ((q : EdgePoint) → AtMost n (f q)) → (r : Located) → AtMost n (andThen f r)

@@ -1,5 +1,5 @@
 -- What holds of an edge point.
-pub mod Gather
+pub mod SampleProfile
 pub mod Passes
 pub mod Bounds
 pub mod Answers

@@ -1,5 +1,6 @@
--- refine.rs, one edge point: the profile of seven samples and a pass (244 to 331), three passes (377 to 394), and the
--- call's answer. Definitions only; the peak of a profile, and where three passes tend, are in `peak`. `opened` is internal.
+-- refine.rs, one edge point: the profile of seven samples and a pass (244 to 332), three passes (377
+-- to 394), and the call's answer. Definitions only, to be believed; the peak of a profile, and where
+-- three passes tend, are in `peak`.
 use Prim.Native.Nat.{ℕ, zero, suc}
 use mathlib.Core.Bool.{not}
 use mathlib.Core.List.{List, [], _∷_, _++_}

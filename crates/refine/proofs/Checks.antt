@@ -1,14 +1,14 @@
 -- The entry checks. The photograph's two are decided by one call: where its number is 0 both pass, and else it is the number of all. Assumes nothing.
 use mathlib.Core.Path.{_≡_, refl, sym, _∙_}
 use Prim.Native.Nat.{ℕ}
-use mathlib.Core.Bool.{true, _&&_}
+use mathlib.Core.Bool.{true}
 use mathlib.Core.List.{List}
 use lib.ListN.{length, drop}
-use Rattle.prelude.proofs.Tests.{both}
-use Rattle.prelude.proofs.Checks.{zero-exactly, refused-before, all-zero}
+use Rattle.prelude.proofs.Checks.{refused-before, all-zero}
 use Rattle.prelude.specs.Checks.{first}
 use Rattle.number.specs.Numbers as number
 use Rattle.photograph.specs.Photographs.{goodSize, goodPhotograph, photographChecks, photographNumber}
+use Rattle.photograph.proofs.Photographs.{good-photograph}
 use Rattle.refine.specs.declared.Request.{Request}
 use Rattle.refine.specs.Refine.{Photograph, entryChecks, entry}
 
@@ -16,12 +16,6 @@ pub bad-photograph : (r : Request) (ms : List ℕ) (p : Photograph) {n : ℕ} �
     → n ≡ entry r ms p
 unfolding photographNumber entry
 bad-photograph r ms p is e = is ∙ sym (refused-before (photographChecks (r .width) (r .height) (p .stride) (length (p .bytes))) (drop 2 (entryChecks r ms p)) refl (λ z. e (is ∙ z)))
-
-pub good-photograph : (w h stride bytes : ℕ) {n : ℕ} → n ≡ photographNumber w h stride bytes → n ≡ 0 → (goodSize w h ≡ true) × (goodPhotograph w h stride bytes ≡ true)
-unfolding photographNumber
-good-photograph w h stride bytes is e =
-    let all = both (goodSize w h) (goodPhotograph w h stride bytes && true) (zero-exactly (photographChecks w h stride bytes) refl .0 (sym is ∙ e)) in
-    (all .0, both (goodPhotograph w h stride bytes) true (all .1) .0)
 
 -- ---- a run that enters
 

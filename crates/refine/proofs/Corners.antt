@@ -1,30 +1,22 @@
--- Four corners: each goes by the same step, and they are near if none is far. By cases on a list of four. Assumes nothing.
-use mathlib.Core.Path.{_≡_, refl, sym, _∙_}
+-- Four corners: each goes by the same step, and they are near if none is far. Assumes nothing.
+use mathlib.Core.Path.{_≡_, refl}
 use Prim.Native.Nat.{ℕ, _+_, _<_, _≤_}
 use native.Mathlib.Numerals.{add-one}
 use native.Mathlib.Omega.{arith}
 use mathlib.Core.Bool.{Bool, true, false, not, _&&_}
 use mathlib.Core.List.{List, [], _∷_, map}
 use lib.Ieee.{nan}
-use lib.ListN.{length, getD, drop, drop-of-length-le, length-map}
+use lib.ListN.{length, getD, drop, drop-of-length-le}
 use lib.Seq.{drop-cons}
+use Rattle.prelude.proofs.Lists.{by-four}
 use Rattle.prelude.proofs.Tests.{failed, passed}
 use Rattle.pixel.specs.Pixels.{corner, source}
 use Rattle.pixel.specs.declared.SourcePixel.{SourcePixel}
 use Rattle.refine.specs.Refine.{withinBounds, allWithinBounds}
 
--- an array's length, as a field of a struct tells it
-pub length-mapped : {X Y : Type 0} (f : X → Y) (l : List X) (n : ℕ) → length (map f l) ≡ n → length l ≡ n
-length-mapped f l n e = sym (length-map l f) ∙ e
-
 -- a step on each of four, written out
 pub four-of : {A B : Type 0} (f : A → B) (d : A) (xs : List A) → length xs ≡ 4 → f (getD xs 0 d) ∷ f (getD xs 1 d) ∷ f (getD xs 2 d) ∷ f (getD xs 3 d) ∷ [] ≡ map f xs
-four-of f d [] h = absurd (omega arith)
-four-of f d (x ∷ []) h = absurd (omega arith)
-four-of f d (x ∷ y ∷ []) h = absurd (omega arith)
-four-of f d (x ∷ y ∷ z ∷ []) h = absurd (omega arith)
-four-of f d (x ∷ y ∷ z ∷ w ∷ []) h = refl
-four-of f d (x ∷ y ∷ z ∷ w ∷ v ∷ vs) h = absurd (omega arith)
+four-of f d = by-four (λ xs. f (getD xs 0 d) ∷ f (getD xs 1 d) ∷ f (getD xs 2 d) ∷ f (getD xs 3 d) ∷ [] ≡ map f xs) (λ a b c e. refl)
 
 -- whether those from i on are near, by whether corner i is
 by-turn : (q : List SourcePixel) (i : ℕ) (b : Bool) → i < length q → (withinBounds (corner q i .0) && withinBounds (corner q i .1)) ≡ b

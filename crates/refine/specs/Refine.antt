@@ -1,5 +1,6 @@
--- refine.rs, `refine_corners` and `refine_corners_mapped`: the entry checks, and what the calls return.
--- Definitions only.
+-- refine.rs, `refine_corners` (662) and `refine_corners_mapped` (683): the entry checks, the division
+-- (713), and what the calls return. Definitions only, to be believed; `taskOf` is internal, the
+-- request as the inner functions take it.
 use Prim.Native.Nat.{ℕ, _*_}
 use mathlib.Core.Bool.{Bool, true, not, _&&_}
 use mathlib.Core.List.{List, [], _∷_, _++_, map}

@@ -15,8 +15,9 @@ mod entry; // entry.rt: the entry checks
 pub use entry::area;
 pub use entry::entry_number;
 
-// All of a refinement but the pixels and the modules: the photograph's size, the label's side in modules, how
-// many working pixels there are for a source pixel, its corners in those, its polarity, the camera, and the settings.
+// All of a refinement but the pixels and the modules: the photograph's size, the label's side in modules, how many
+// working pixels there are for a source pixel or with a camera for a rectified one, its corners in working pixels, its
+// polarity, the camera, and the settings.
 pub struct Request {
     pub width: u32,
     pub height: u32,

@@ -1,3 +1,3 @@
--- What the contracts of `lines` cite.
+-- What the contracts of `report` cite.
 pub mod Lines
 pub mod Puts

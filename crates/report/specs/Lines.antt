@@ -1,4 +1,4 @@
--- The lines that document 01 prints of an answer, in ASCII. Definitions only.
+-- The lines that document 01 prints of an answer, in ASCII. Definitions only, to be believed.
 --   result NUMBER
 -- and after 0, for each of the indices 0 to 3,
 --   corner INDEX X Y FLAG       x and y as the 16 hexadecimal digits of their bits

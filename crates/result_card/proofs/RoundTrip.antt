@@ -7,7 +7,9 @@ use native.Mathlib.Omega.{arith}
 use native.Mathlib.Nat.{mod-eq-of-lt}
 use lib.Dec.{eqb}
 use lib.Ieee.{binary64, ofBits}
+use lib.ListN.{length}
 use Rattle.prelude.specs.Prelude.{bit}
+use Rattle.prelude.proofs.Lists.{Each, Four, by-four}
 use Rattle.pixel.specs.Pixels.{source}
 use Rattle.pixel.specs.declared.SourcePixel.{SourcePixel}
 use Rattle.pixel.proofs.Values.{Fits}
@@ -15,7 +17,6 @@ use Rattle.fit.specs.declared.EdgeStat.{EdgeStat}
 use Rattle.fit.specs.Fit.{stat}
 use Rattle.fit.proofs.Counts.{Counted}
 use Rattle.corners.specs.declared.RefinedCorners.{RefinedCorners}
-use Rattle.rounds.proofs.Fours.{Four, JustFour, four-of}
 use Rattle.fields.specs.Fields.{numberAt, floatAt, bytesOf, floatBytes, field}
 use Rattle.fields.proofs.RoundTrip.{float-back}
 use Rattle.result_card.specs.ResultCard.{cornerBytes, statBytes, flagBytes, resultCard, readCorner, readStat, readFlag, readResult}
@@ -49,11 +50,23 @@ same-refined p q r = cc
 -- ---- the card
 
 -- from the front of a buffer, whatever stands behind it there
-pub read-back : (cs : List SourcePixel) (es : List EdgeStat) (fs : List Bool) (tail : List ℕ) → Four Fits cs → Four (Counted 255) es → JustFour fs
-    → readResult (resultCard (refinedOf cs es fs) ++ tail) ≡ refinedOf cs es fs
-unfolding numberAt floatAt bytesOf floatBytes field cornerBytes statBytes flagBytes resultCard readCorner readStat readFlag readResult
-read-back _ _ _ tail (four-of {a} {b} {c} {d} ha hb hc hd) (four-of {a = k} {b = l} {c = m} {d = n} hk hl hm hn) (four-of {a = w} {b = x} {c = y} {d = z} _ _ _ _) =
-    same-refined
-    (same-four (corner-back a ha) (corner-back b hb) (corner-back c hc) (corner-back d hd))
-    (same-four (stat-back k hk) (stat-back l hl) (stat-back m hm) (stat-back n hn))
-    (same-four (flag-back w) (flag-back x) (flag-back y) (flag-back z))
+module _ (tail : List ℕ) where
+  abbrev Back : List SourcePixel → List EdgeStat → List Bool → Type 0
+  Back cs es fs = readResult (resultCard (refinedOf cs es fs) ++ tail) ≡ refinedOf cs es fs
+
+  pub read-back : (cs : List SourcePixel) (es : List EdgeStat) (fs : List Bool) → Four Fits cs → Four (Counted 255) es → length fs ≡ 4 → Back cs es fs
+  unfolding numberAt floatAt bytesOf floatBytes field cornerBytes statBytes flagBytes resultCard readCorner readStat readFlag readResult
+  read-back cs es fs corners stats flags =
+      by-four (λ fs. Back cs es fs)
+      (λ w x y z.
+      by-four (λ es. Each (Counted 255) es → Back cs es (w ∷ x ∷ y ∷ z ∷ []))
+      (λ k l m n few.
+      by-four (λ cs. Each Fits cs → Back cs (k ∷ l ∷ m ∷ n ∷ []) (w ∷ x ∷ y ∷ z ∷ []))
+      (λ a b c d fit.
+      same-refined
+      (same-four (corner-back a (fit .0)) (corner-back b (fit .1 .0)) (corner-back c (fit .1 .1 .0)) (corner-back d (fit .1 .1 .1 .0)))
+      (same-four (stat-back k (few .0)) (stat-back l (few .1 .0)) (stat-back m (few .1 .1 .0)) (stat-back n (few .1 .1 .1 .0)))
+      (same-four (flag-back w) (flag-back x) (flag-back y) (flag-back z)))
+      cs (corners .four) (corners .each))
+      es (stats .four) (stats .each))
+      fs flags

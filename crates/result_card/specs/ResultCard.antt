@@ -1,5 +1,7 @@
--- The result card, of 93 bytes: how it is written of an answer and read back, and what a buffer holds that it is written to. Definitions only. Counts are
--- written modulo 256, and a float by its bits: so what is read back is what was written where counts are below 256 and corners are binary64 values.
+-- The result card, of 93 bytes: how it is written of an answer and read back, and what a buffer holds
+-- that it is written to. Definitions only, to be believed; reading back is for the theorem in
+-- proofs/RoundTrip. Counts are written modulo 256, and a float by its bits: so what is read back is
+-- what was written where counts are below 256 and corners are binary64 values.
 --   16 corners   17 four times probed, fit, dropped, valid   18 four flags
 use Prim.Native.Nat.{ℕ, _+_, _*_, _%_}
 use mathlib.Core.Bool.{Bool}

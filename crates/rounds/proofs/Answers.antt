@@ -1,12 +1,18 @@
 -- What every answer of a round is like, refused or not: four corners that are binary64 values, four counts of at most n probes, four flags. A corner
 -- is the one that the round started from, or the crossing of two lines; an edge has at most n probes where the settings allow no more; and the four
 -- stay four, since an edge is put in its place. It holds of whatever a round can end in, so of its end over any photograph. Assumes nothing.
-use Prim.Native.Nat.{ℕ, zero, suc, _+_, _-_, _%_, _≤_}
+use Prim.Native.Nat.{ℕ, zero, suc, _+_, _-_, _%_, _≤_, _<_}
+use mathlib.Core.Path.{_≡_, refl}
 use mathlib.Core.Bool.{Bool, not, _&&_}
 use mathlib.Core.List.{List}
+use native.Mathlib.Omega.{arith}
 use lib.Dec.{ltb, eqb}
+use lib.Ieee.{nan}
+use lib.ListN.{length, replicate}
 use Rattle.number.specs.Numbers as number
 use Rattle.prelude.proofs.Branches.{either}
+use Rattle.prelude.proofs.Lists.{Four, each-at, four-set}
+use Rattle.pixel.specs.Pixels.{source, corner}
 use Rattle.pixel.specs.declared.SourcePixel.{SourcePixel}
 use Rattle.pixel.proofs.Values.{Fits, origin-fits}
 use Rattle.homography.specs.declared.PerspectiveTransform.{PerspectiveTransform}
@@ -23,21 +29,23 @@ use Rattle.edge.specs.declared.Plan.{Plan}
 use Rattle.edge.proofs.Counts.{edge-counted}
 use Rattle.corners.specs.declared.Answer.{Answer}
 use Rattle.corners.specs.declared.Edges.{Edges}
-use Rattle.corners.specs.Corners.{refused, answered, noEdges, withEdge, lineIn, statIn, validCount, crossedAt, orElse, refinedCorners, roundEnd}
+use Rattle.corners.specs.Corners.{noStat, refused, answered, noEdges, withEdge, lineIn, statIn, validCount, crossedAt, orElse, refinedCorners, roundEnd}
 use Rattle.rounds.specs.Rounds.{unlessRefused, sideOf, edgesFrom, mappedRound, round, isWeak, remainingRounds, rounds}
-use Rattle.rounds.proofs.Fours.{Four, JustFour, four-of, four-set}
 
 pub record Sound (n : ℕ) (a : Answer) : Type 0 where
   pub corners : Four Fits (a .refined .corners)
   pub stats : Four (Counted n) (a .refined .«edge_stats»)
-  pub flags : JustFour (a .refined .«corner_refined»)
+  pub flags : length (a .refined .«corner_refined») ≡ 4
+
+none-yet : (n : ℕ) → Four (Counted n) (replicate 4 noStat)
+none-yet n = let none = none-counted n in record { four = refl; each = (none, (none, (none, (none, tt)))) }
 
 pub refused-sound : (n number : ℕ) → Sound n (refused number)
 unfolding refused
 refused-sound n number = record {
-  corners = four-of origin-fits origin-fits origin-fits origin-fits;
-  stats = four-of (none-counted n) (none-counted n) (none-counted n) (none-counted n);
-  flags = four-of tt tt tt tt;
+  corners = record { four = refl; each = (origin-fits, (origin-fits, (origin-fits, (origin-fits, tt)))) };
+  stats = none-yet n;
+  flags = refl;
 }
 
 -- ---- the corners of a round
@@ -62,23 +70,21 @@ module _ (n : ℕ) where
   joined-sound : (e : ℕ) (got : Edges) (f : EdgeFit) → EdgesSound got → EdgeCounted n f → EdgesSound (withEdge e got f)
   unfolding withEdge
   joined-sound e got _ h stopped = h
-  joined-sound e got _ h (counted few) = four-set e h few
-  joined-sound e got _ h (counted-line few) = four-set e h few
+  joined-sound e got _ h (counted few) = four-set (Counted n) _ e _ h few
+  joined-sound e got _ h (counted-line few) = four-set (Counted n) _ e _ h few
 
   -- ---- the end of a round
 
   refined-sound : (q : List SourcePixel) (es : Edges) → Four Fits q → EdgesSound es → Sound n (answered (refinedCorners q es))
   unfolding answered refinedCorners
-  refined-sound q es (four-of a b c d) h = record {
-    corners =
-        four-of
-        (or-else-fits (crossed-fits es 0) a)
-        (or-else-fits (crossed-fits es 1) b)
-        (or-else-fits (crossed-fits es 2) c)
-        (or-else-fits (crossed-fits es 3) d);
+  refined-sound q es start h = record {
+    corners = record { four = refl; each = (at 0 (omega arith), (at 1 (omega arith), (at 2 (omega arith), (at 3 (omega arith), tt)))) };
     stats = h;
-    flags = four-of tt tt tt tt;
+    flags = refl;
   }
+    where
+      at : (i : ℕ) → i < 4 → Fits (orElse (crossedAt es i) (corner q i))
+      at i l = or-else-fits (crossed-fits es i) (each-at Fits q i (source nan nan) (start .each) (omega (arith, start .four)))
 
   round-end-sound : (q : List SourcePixel) (es : Edges) → Four Fits q → EdgesSound es → Sound n (roundEnd q es)
   unfolding roundEnd
@@ -102,7 +108,7 @@ module _ (n : ℕ) where
     unfolding mappedRound noEdges
     mapped-sound q NoMap h = ends (refused-sound n _)
     mapped-sound q (By m) h =
-        always-bind (edges-sound m q 4 0 noEdges (four-of (none-counted n) (none-counted n) (none-counted n) (none-counted n)))
+        always-bind (edges-sound m q 4 0 noEdges (none-yet n))
         (λ es k. ends (round-end-sound q es h k))
 
     pub round-sound : (q : List SourcePixel) → Four Fits q → Always (Sound n) (round p ms q)

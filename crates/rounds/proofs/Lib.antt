@@ -1,7 +1,6 @@
 -- What belongs to no one function of `rounds`.
 pub mod EdgeByEdge
 pub mod RoundByRound
-pub mod Fours
 pub mod Answers
 -- the definitions opened together
 pub mod Opened

@@ -1,5 +1,5 @@
--- refine.rs, `refine_round` (493 to 627) and the rounds of `refine_corners` (699 to 728), as trees of samples. Definitions
--- only; what the edges of a round come to is in `corners`. `opened` is internal.
+-- refine.rs, `refine_round` (493 to 627) and the rounds of `refine_corners` (699 to 727), as trees of
+-- samples. Definitions only, to be believed; what the edges of a round come to is in `corners`.
 use Prim.Native.Nat.{ℕ, zero, suc, _+_, _-_, _%_}
 use mathlib.Core.Bool.{Bool, _||_}
 use mathlib.Core.List.{List}

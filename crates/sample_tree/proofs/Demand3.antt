@@ -14,7 +14,7 @@ use Rattle.photograph.specs.Photographs.{Photo, photo, Pixel}
 use Rattle.footprint.specs.declared.Scene.{Scene}
 use Rattle.pixel.proofs.Places.{place-lt}
 use Rattle.sampling.proofs.Interpolation.{Same}
-use Rattle.photograph.proofs.Sizes.{Sized}
+use Rattle.photograph.proofs.Photographs.{Sized}
 use Rattle.sample_tree.specs.SampleTree.{SampleTree, reads}
 use Rattle.sample_tree.specs.Sheets.{isRead, sheet, copy}
 use Rattle.sample_tree.proofs.Agreement.{Alike, alike}

@@ -5,7 +5,7 @@ use Rattle.footprint.specs.declared.Scene.{Scene}
 use Rattle.footprint.specs.Footprints.{sceneFootprint}
 use Rattle.sampling.specs.Sampling.{pixelsRead, interpolate}
 use Rattle.photograph.proofs.Pixels.{Inside}
-use Rattle.photograph.proofs.Sizes.{Sized}
+use Rattle.photograph.proofs.Photographs.{Sized}
 use Rattle.sampling.proofs.Inside.{scene-inside}
 use Rattle.sample_tree.specs.SampleTree.{SampleTree, done, sample, reads}
 

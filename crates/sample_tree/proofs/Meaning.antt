@@ -20,7 +20,7 @@ use Rattle.footprint.specs.declared.Footprint.{Footprint}
 use Rattle.footprint.specs.declared.Footprint.the-variants.{Rejected, Border, Cell}
 use Rattle.pixel.proofs.Places.{place-lt}
 use Rattle.photograph.proofs.Pixels.{Inside}
-use Rattle.photograph.proofs.Sizes.{Sized}
+use Rattle.photograph.proofs.Photographs.{Sized}
 use Rattle.sampling.proofs.Inside.{scene-inside}
 use Rattle.sample_tree.specs.declared.Meter.{Meter}
 use Rattle.sample_tree.specs.Meters.{increment, incrementBy}

@@ -1,4 +1,4 @@
--- What sampling carries along: how many samples were tried. Definitions only.
+-- What sampling carries along: how many samples were tried. Definitions only, to be believed.
 use Prim.Native.Nat.{ℕ, zero, suc, _+_}
 use lib.Dec.{ltb}
 use Rattle.prelude.specs.Prelude.{if_then_else_}

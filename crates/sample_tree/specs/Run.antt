@@ -1,5 +1,8 @@
--- How a step is run: by a sampler, from a state. A sampler takes a place and a state to what a sample there shows and the next state. And what a function that samples
--- promises, whatever the sampler. Definitions only; the laws are in proofs/Steps, and what a run by the refinement's sampler comes to is in proofs/Meaning.
+-- How a step is run: by a sampler, from a state. A sampler takes a place and a state to what a sample
+-- there shows and the next state; the refinement's is sample.rs, `SourceView::sample` (744 to 750),
+-- with the marks. And what a function that samples promises, whatever the sampler. Definitions only,
+-- to be believed; the laws are in proofs/Steps, and what a run by the refinement's sampler comes to
+-- is in proofs/Meaning.
 use mathlib.Core.Path.{_≡_}
 use Prim.Native.Nat.{ℕ}
 use mathlib.Core.List.{List}

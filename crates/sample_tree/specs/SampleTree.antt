@@ -1,6 +1,7 @@
--- A step of the refinement looks at the photograph, and where it looks next depends on what it saw. `SampleTree A` is such a step that ends in an A:
--- a tree that asks for samples, one after another. No photograph stands in it. Over a photograph it has a value, it reads pixels, and it takes
--- a number of samples. Definitions only; what holds of every tree is in proofs/.
+-- A step of the refinement looks at the photograph, and where it looks next depends on what it saw.
+-- `SampleTree A` is such a step that ends in an A: a tree that asks for samples, one after another.
+-- No photograph stands in it. Over a photograph it has a value, it reads pixels, and it takes a
+-- number of samples. Definitions only, to be believed; what holds of every tree is in proofs/.
 use Prim.Native.Nat.{ℕ, suc}
 use mathlib.Core.List.{List, [], _++_}
 use Rattle.pixel.specs.declared.SourcePixel.{SourcePixel}

@@ -1,4 +1,5 @@
--- The mark sheet and the blanked copy that a list of read pixels comes to. Definitions only; demand 3, for every tree, is in proofs/.
+-- The mark sheet and the blanked copy that a list of read pixels comes to. Definitions only, to be
+-- believed; demand 3, for every tree, is in proofs/.
 use Prim.Native.Nat.{ℕ, _*_, _/_, _%_}
 use mathlib.Core.Bool.{Bool, false, _&&_, _||_}
 use mathlib.Core.List.{List, [], _∷_}

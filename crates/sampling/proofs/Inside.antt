@@ -11,7 +11,7 @@ use Rattle.footprint.specs.declared.Scene.{Scene}
 use Rattle.footprint.specs.Footprints.{footprint, sceneFootprint}
 use Rattle.sampling.specs.Sampling.{pixelsRead, Ordered}
 use Rattle.photograph.proofs.Pixels.{Inside}
-use Rattle.photograph.proofs.Sizes.{Sized}
+use Rattle.photograph.proofs.Photographs.{Sized}
 use Rattle.footprint.proofs.Cuts.{Cut, footprint-cut, viewed-cut}
 
 pub cut-ordered : (w h : ℕ) (at : Footprint) → Cut w h at → Ordered at

@@ -1,16 +1,8 @@
 // Reads cards, each behind its length in three bytes, and prints what each comes to.
-ghost use Prim.Native.Nat.{_<_};
-
-// A byte as a length.
-fn wide(b: u8) -> usize
-    ensures { λ r. ⌜ r < 256 ⌝ }
-{
-    b as usize
-}
 
 // A card's length by the three bytes before it.
 fn size_of(head: &[u8; 3]) -> usize {
-    wide(head[0]) + 256 * wide(head[1]) + 65536 * wide(head[2])
+    fields::number_at(head, 0, 3) as usize
 }
 
 // Reads a card and prints its answer.

@@ -1,12 +1,4 @@
 // Bytes by their places: reads and writes that pass over what lies outside, poison, comparison, counts and a digest.
-ghost use Prim.Native.Nat.{_<_};
-
-// A byte as a number of 64 bits.
-pub(crate) fn wide(b: u8) -> u64
-    ensures { λ r. ⌜ r < 256 ⌝ }
-{
-    b as u64
-}
 
 // The byte k behind `at`; past the end 0.
 pub(crate) fn get(s: &[u8], at: usize, k: usize) -> u8 {
@@ -144,7 +136,7 @@ pub(crate) fn digest(s: &[u8]) -> u64 {
     let mut h: u64 = 0xcbf29ce484222325;
     let mut i: usize = 0;
     while i < s.len() {
-        h = times_prime(h ^ wide(s[i]));
+        h = times_prime(h ^ fields::byte_at(s, i));
         i += 1;
     }
     h

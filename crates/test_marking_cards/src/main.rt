@@ -12,7 +12,6 @@ use bytes::is_poison;
 use bytes::poison_all;
 use bytes::put;
 use bytes::same;
-use bytes::wide;
 use corners::Answer;
 use others::HEAD;
 use others::over_copy;
@@ -195,7 +194,7 @@ fn run(card: &[u8], sheet: &mut [u8], copy: &mut [u8]) {
 
 // A card's length by the three bytes before it.
 fn size_of(head: &[u8; 3]) -> usize {
-    wide(head[0]) as usize + 256 * wide(head[1]) as usize + 65536 * wide(head[2]) as usize
+    fields::number_at(head, 0, 3) as usize
 }
 
 // Reads a card and runs it.

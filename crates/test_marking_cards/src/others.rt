@@ -6,7 +6,6 @@ use crate::bytes::get;
 use crate::bytes::put;
 use crate::bytes::put_bytes;
 use crate::bytes::put_poison;
-use crate::bytes::wide;
 
 // A good card begins with field 1 and the header of field 2: so many bytes.
 pub(crate) const HEAD: usize = 12;
@@ -42,7 +41,7 @@ fn product(a: u32, b: u16) -> usize
 
 // The two bytes at a place as a number.
 fn number_at(s: &[u8], i: usize) -> u16 {
-    (wide(get(s, i, 0)) + 256 * wide(get(s, i, 1))) as u16
+    fields::number_at(s, i, 2) as u16
 }
 
 // The size and stride of a card's picture.

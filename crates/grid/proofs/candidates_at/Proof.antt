@@ -5,7 +5,7 @@ use borrow.Author.Needs.{needs}
 use borrow.Author.Tests.{not-true, not-false}
 use Rattle.grid.specs.Probes.{candidateAt}
 use Rattle.grid.specs.Places.{candidate}
-use Rattle.grid.proofs.Sides.{border-lies}
+use Rattle.grid.proofs.Layouts.{border-lies}
 use Rattle.grid.proofs.candidates_at.Statement.{statement}
 use Rattle.grid.proofs.candidates_at.Tie as tie
 

@@ -1,7 +1,7 @@
--- `grid::decimation` meets its contract: few candidates stay, no room leaves none, and beyond that the ceiling thins them. Assumes nothing.
+-- `grid::decimation` meets its contract: few candidates stay, no room leaves none, and beyond that the ceiling decimates them. Assumes nothing.
 use borrow.Author.Needs.{needs}
 use native.Mathlib.Omega.{arith}
-use Rattle.grid.proofs.Thinning.{thins-few, thins-none, thins-many}
+use Rattle.grid.proofs.Decimated.{thins-few, thins-none, thins-many}
 use Rattle.grid.proofs.decimation.Statement.{statement}
 use Rattle.grid.proofs.decimation.Tie as tie
 

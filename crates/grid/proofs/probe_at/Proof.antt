@@ -3,7 +3,7 @@ use Prim.Native.Nat.{_/_}
 use native.Mathlib.Omega.{arith}
 use borrow.Author.Needs.{needs}
 use Rattle.grid.specs.Places.{probeAt}
-use Rattle.grid.proofs.Sides.{inward-lies}
+use Rattle.grid.proofs.Layouts.{inward-lies}
 use Rattle.grid.proofs.probe_at.Statement.{statement}
 use Rattle.grid.proofs.probe_at.Tie as tie
 

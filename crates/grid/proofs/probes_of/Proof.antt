@@ -1,4 +1,4 @@
--- `grid::probes_of` meets its contract: every k-th candidate, k as `decimation` gives it for their number, is what thinning them leaves. Assumes nothing.
+-- `grid::probes_of` meets its contract: every k-th candidate, k as `decimation` gives it for their number, is what decimating them leaves. Assumes nothing.
 use mathlib.Core.Path.{subst}
 use native.Mathlib.Omega.{arith}
 use borrow.Author.Needs.{needs}
@@ -6,8 +6,8 @@ use Rattle.grid.specs.Grids.{gridOf}
 use Rattle.grid.specs.Probes.{Selected}
 use Rattle.grid.specs.Places.{layoutOf}
 use Rattle.grid.specs.declared.EdgeLayout.{EdgeLayout}
-use Rattle.grid.proofs.Sides.{is-side}
-use Rattle.grid.proofs.Thinning.{selected}
+use Rattle.grid.proofs.Layouts.{is-layout}
+use Rattle.grid.proofs.Decimated.{selected}
 use Rattle.grid.proofs.probes_of.Statement.{statement}
 use Rattle.grid.proofs.probes_of.Tie as tie
 
@@ -18,13 +18,13 @@ layout-of-requires : tie.Need-layout-of-requires
 layout-of-requires c κs = search needs
 
 count-candidates-requires : tie.Need-count-candidates-requires
-count-candidates-requires c κs = is-side _ _ (c .layout-of .ensures)
+count-candidates-requires c κs = is-layout _ _ (c .layout-of .ensures)
 
 decimation-requires : tie.Need-decimation-requires
 decimation-requires c κs = search needs
 
 select-requires : tie.Need-select-requires
-select-requires c κs = ((c .decimation .ensures .some, omega arith), is-side _ _ (c .before .before .layout-of .ensures))
+select-requires c κs = ((c .decimation .ensures .some, omega arith), is-layout _ _ (c .before .before .layout-of .ensures))
 
 returns : tie.Need-returns
 unfolding layoutOf

@@ -5,7 +5,7 @@ use Prim.Native.Nat.{_-_, _≤_}
 use native.Mathlib.Omega.{arith}
 use borrow.Author.Needs.{needs}
 use Rattle.grid.specs.Grids.{gridOf}
-use Rattle.grid.proofs.Thinning.{Filled, filled-none, filled-more, picked-all, picked-full}
+use Rattle.grid.proofs.Decimated.{Filled, filled-none, filled-more, picked-all, picked-full}
 use Rattle.grid.proofs.select.Statement.{statement}
 use Rattle.grid.proofs.select.Tie as tie
 

@@ -4,7 +4,7 @@ use mathlib.Core.Path.{sym, subst}
 use Prim.Native.Nat.{ℕ, _+_, _-_, _*_, _/_, _%_, _^_, _≤_, _<_}
 use native.Mathlib.Omega.{arith}
 use Rattle.ieee.proofs.Patterns.{no-nan-small}
-use Rattle.ieee_root.proofs.Inputs.{digits-are}
+use Rattle.ieee_root.proofs.Inputs.{digits-are, digits-between}
 use Rattle.ieee_root.proofs.guess.Statement.{statement}
 use Rattle.ieee_root.proofs.guess.Tie as tie
 
@@ -27,10 +27,7 @@ bits-of-requires : tie.Need-bits-of-requires
 bits-of-requires c κs = search needs
 
 returns : tie.Need-returns
-returns c = subst (λ (r : ℕ). (2 ^ 52 ≤ r) × (r < 2 ^ 53)) (sym (digits-are (c .bits-of .result))) (under (c .bits-of .result))
-  where
-    under : (y : ℕ) → (2 ^ 52 ≤ 2 ^ 52 + y % 2 ^ 52) × (2 ^ 52 + y % 2 ^ 52 < 2 ^ 53)
-    under y = omega arith
+returns c = subst (λ (r : ℕ). (2 ^ 52 ≤ r) × (r < 2 ^ 53)) (sym (digits-are (c .bits-of .result))) (digits-between (c .bits-of .result))
 
 pub guess-spec : {M : Type 1} → statement M
 guess-spec = tie.close (tie.spec add-i add-i-2 float-from-bits-x sub-y0 float-from-bits-y0 bits-of-requires returns)

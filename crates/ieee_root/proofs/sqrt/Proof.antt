@@ -9,7 +9,7 @@ use lib.Ieee.Positive.{above}
 use Rattle.ieee_root.specs.Root.{root, rootUnits}
 use Rattle.ieee.proofs.Patterns.{yes, zero-by-zero}
 use Rattle.ieee.proofs.Whole.{zero-is}
-use Rattle.ieee_root.proofs.Inputs.{above-zero, not-nan, root-zero, root-none, small-root, infinite-root, normal-root, digits-are, Lifted, lifted, lifted-same}
+use Rattle.ieee_root.proofs.Inputs.{above-zero, not-nan, root-zero, root-none, small-root, infinite-root, normal-root, digits-are, digits-between, Lifted, lifted, lifted-same}
 use Rattle.ieee_root.proofs.sqrt.Statement.{statement}
 use Rattle.ieee_root.proofs.sqrt.Tie as tie
 
@@ -90,11 +90,8 @@ scaled-root-requires-2 : tie.Need-scaled-root-requires-2
 scaled-root-requires-2 c κs =
     let y = b (c .before .before .before) in
     let h = large c .0 in
-    (subst (λ (m : ℕ). (2 ^ 52 ≤ m) × (m < 2 ^ 53)) (sym (digits-are y)) (under y), (rest (c .before .if2 .left), omega arith))
+    (subst (λ (m : ℕ). (2 ^ 52 ≤ m) × (m < 2 ^ 53)) (sym (digits-are y)) (digits-between y), (rest (c .before .if2 .left), omega arith))
   where
-    under : (y : ℕ) → (2 ^ 52 ≤ 2 ^ 52 + y % 2 ^ 52) × (2 ^ 52 + y % 2 ^ 52 < 2 ^ 53)
-    under y = omega arith
-
     rest : {y : ℕ} → 4503599627370496 ≤ y → 1022 ≤ y / 4503599627370496 + 1073
     rest h = omega arith
 

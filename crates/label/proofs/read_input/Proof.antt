@@ -1,17 +1,12 @@
 -- `label::read_input` answers a number of bytes that lie in the buffer. It ends, since each turn that goes on has read some. Assumes nothing.
-use Prim.Native.Nat.{ℕ, _≤_, _-_}
-use mathlib.Core.Path.{_≡_, sym}
-use mathlib.Core.List.{List}
+use Prim.Native.Nat.{_≤_, _-_}
+use mathlib.Core.Path.{_≡_}
 use native.Mathlib.Omega.{arith}
 use borrow.Author.Needs.{needs}
 use lib.ListN.{length}
-use lib.Seq.{length-take-le}
-use Rattle.io.specs.Counts.{Counts}
+use Rattle.report.proofs.Pieces.{counted}
 use Rattle.label.proofs.read_input.Statement.{statement}
 use Rattle.label.proofs.read_input.Tie as tie
-
-counts : (n : ℕ) (s : List ℕ) → n ≤ length s → Counts n s
-counts n s h = (h, sym (length-take-le n s h))
 
 abbrev Inv-loop : tie.InvT-loop
 Inv-loop buffer₀ n₀ buffer n = (length buffer ≡ length buffer₀) × (n ≤ length buffer)
@@ -29,13 +24,13 @@ same-length : tie.Need-same-length Inv-loop μ-loop
 same-length c = omega arith
 
 returns : tie.Need-returns Inv-loop μ-loop
-returns c = counts _ _ (omega arith)
+returns c = counted _ _ (omega arith)
 
 same-length-2 : tie.Need-same-length-2 Inv-loop μ-loop
 same-length-2 c = omega arith
 
 returns-2 : tie.Need-returns-2 Inv-loop μ-loop
-returns-2 c = counts _ _ (omega arith)
+returns-2 c = counted _ _ (omega arith)
 
 loop-less : tie.Need-loop-less Inv-loop μ-loop
 loop-less c = omega arith
@@ -47,7 +42,7 @@ same-length-3 : tie.Need-same-length-3 Inv-loop μ-loop
 same-length-3 c = omega arith
 
 returns-3 : tie.Need-returns-3 Inv-loop μ-loop
-returns-3 c = counts _ _ (omega arith)
+returns-3 c = counted _ _ (omega arith)
 
 pub read-input-spec : {M : Type 1} → statement M
 read-input-spec =

@@ -14,7 +14,7 @@ use Rattle.peak.specs.declared.Located.{Located}
 use Rattle.peak.specs.declared.Located.the-variants.{NoEdge}
 use Rattle.peak.specs.Aitken.{aitken}
 use Rattle.profile.specs.Profile.{localize}
-use Rattle.profile.proofs.Gather.{Left, begun, went-on, broke-off, ended}
+use Rattle.profile.proofs.SampleProfile.{Left, begun, went-on, broke-off, ended}
 use Rattle.profile.proofs.Passes.{Passed, none-yet, pass-broke, no-peak, pass-done, all-passed}
 use Rattle.profile.proofs.localize.Statement.{statement}
 use Rattle.profile.proofs.localize.Tie as tie

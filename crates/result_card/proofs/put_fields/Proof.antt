@@ -2,7 +2,7 @@
 use mathlib.Core.Path.{_≡_}
 use borrow.Author.Needs.{needs}
 use lib.ListN.{length}
-use Rattle.refine.proofs.Corners.{length-mapped}
+use Rattle.prelude.proofs.Lists.{length-mapped}
 use Rattle.result_card.proofs.CardLayout.{card-written}
 use Rattle.result_card.proofs.put_fields.Statement.{statement}
 use Rattle.result_card.proofs.put_fields.Tie as tie

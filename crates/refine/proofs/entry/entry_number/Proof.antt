@@ -3,7 +3,8 @@ use mathlib.Core.Path.{sym}
 use borrow.Author.Needs.{needs}
 use Rattle.prelude.proofs.Tests.{failed, passed}
 use Rattle.refine.specs.Refine.{entry}
-use Rattle.refine.proofs.Checks.{bad-photograph, good-photograph}
+use Rattle.photograph.proofs.Photographs.{good-photograph}
+use Rattle.refine.proofs.Checks.{bad-photograph}
 use Rattle.refine.proofs.entry.entry_number.Statement.{statement}
 use Rattle.refine.proofs.entry.entry_number.Tie as tie
 

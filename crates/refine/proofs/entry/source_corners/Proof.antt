@@ -5,7 +5,8 @@ use lib.Ieee.{nan}
 use borrow.Author.Needs.{needs}
 use Rattle.pixel.specs.Pixels.{toSource}
 use Rattle.refine.specs.Refine.{sourceCorners}
-use Rattle.refine.proofs.Corners.{four-of, length-mapped}
+use Rattle.prelude.proofs.Lists.{length-mapped}
+use Rattle.refine.proofs.Corners.{four-of}
 use Rattle.refine.proofs.entry.source_corners.Statement.{statement}
 use Rattle.refine.proofs.entry.source_corners.Tie as tie
 

@@ -1,9 +1,9 @@
--- `line::both_finite` meets its contract: both are tested, the first one first. Assumes nothing.
+-- `ieee::both_finite` meets its contract: both are tested, the first one first. Assumes nothing.
 use mathlib.Core.Path.{sym, _∙_}
 use borrow.Author.Tests.{not-true, not-false}
 use borrow.Author.Needs.{needs}
-use Rattle.line.proofs.both_finite.Statement.{statement}
-use Rattle.line.proofs.both_finite.Tie as tie
+use Rattle.ieee.proofs.both_finite.Statement.{statement}
+use Rattle.ieee.proofs.both_finite.Tie as tie
 
 is-finite-requires : tie.Need-is-finite-requires
 is-finite-requires c κs = search needs

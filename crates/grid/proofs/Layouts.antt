@@ -52,9 +52,9 @@ edge-lies dim e m depth ms p q l =
     (along-row ms m ((dim - 1 - depth) * dim) (place-fits (dim - 1 - depth) dim m far p q))
     (along-column ms m depth dim (place-fits m dim depth q p l))
 
-pub is-side : (dim e : ℕ) {r : EdgeLayout} → r ≡ layoutOf dim e → IsLayout r
+pub is-layout : (dim e : ℕ) {r : EdgeLayout} → r ≡ layoutOf dim e → IsLayout r
 unfolding layoutOf
-is-side dim e h = subst IsLayout (sym h) refl
+is-layout dim e h = subst IsLayout (sym h) refl
 
 module _ (r : EdgeLayout) (is : IsLayout r) (m : ℕ) (ms : List ℕ) (p : r .dim ≤ 4294967295) (q : m ≤ 4294967295) where
   pub border-lies : Lies ms m (borderDark (gridOf (r .dim) ms) (r .edge) m) (r .border) (r .step)

@@ -1,4 +1,4 @@
--- Every k-th of a list, while there is room. Behind one that is taken k - 1 are passed over, and what is left is thinned like the whole; so those
+-- Every k-th of a list, while there is room. Behind one that is taken k - 1 are passed over, and what is left is decimated like the whole; so those
 -- taken can be stored one by one, until none is left or there is no room. Assumes nothing.
 use mathlib.Core.Path.{_≡_, refl, sym, ap, _∙_}
 use Prim.Native.Nat.{ℕ, zero, suc, _+_, _*_, _-_, _/_, _%_, _≤_, _<_, min}
@@ -45,7 +45,7 @@ every-next : (k : ℕ) (x : Probe) (xs : List Probe) → 0 < k → everyFrom k 0
 unfolding everyFrom
 every-next k x xs p = rw zero-mod (ap (λ (l : List Probe). x ∷ l) (every-over k 1 (k - 1) xs (omega arith) (omega arith)))
 
--- ---- the pitch
+-- ---- the decimation
 
 pub thins-few : (n most : ℕ) → n ≤ most → Thins n most 1
 unfolding decimated
@@ -145,7 +145,7 @@ module _ (s : Settings) (g : Grid) (e k most : ℕ) where
 
 -- ---- the selection
 
--- the candidates are counted, the pitch is theirs, and every k-th is picked
+-- the candidates are counted, the decimation is theirs, and every k-th is picked
 pub selected : (s : Settings) (g : Grid) (e n most k : ℕ) {r : Probes} → most ≡ min (s .«max_points_per_edge») maxEdgePoints → Counted s g e n → Thins n most k → Picked s g e k most r → Selected s g e r
 unfolding probesOf
 selected s g e n most k h counted thins picked = record {
