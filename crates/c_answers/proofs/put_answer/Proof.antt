@@ -25,11 +25,15 @@ same-length-2 c = search needs
 returns : tie.Need-returns
 unfolding withCounts
 returns c =
-    let a = c .before .before .before .before .before .before .before .before .before .before .before .before .before .before .before .before .before .before .args .a in
+    let at-put-flags = c .before .before in
+    let at-put-stats = at-put-flags .before .before .before .before in
+    let at-put-corners = at-put-stats .before .before .before .before in
+    let at-start = at-put-corners .before .before .before .before .before .before .before .before in
+    let a = at-start .args .a in
     record {
       number = refl;
-      places = c .before .before .before .before .before .before .before .before .before .before .put-corners .ensures;
-      counts = c .before .before .put-flags .ensures ∙ ap (λ (s : List ℕ). withFlags (a .refined .«corner_refined») s) (c .before .before .before .before .before .before .put-stats .ensures);
+      places = at-put-corners .put-corners .ensures;
+      counts = at-put-flags .put-flags .ensures ∙ ap (λ (s : List ℕ). withFlags (a .refined .«corner_refined») s) (at-put-stats .put-stats .ensures);
     }
 
 pub put-answer-spec : {M : Type 1} → statement M

@@ -37,13 +37,18 @@ same-length c = search needs
 returns : tie.Need-returns
 unfolding withCorners
 returns c =
-    let q = c .before .before .before .before .before .before .before .before .before .before .before .before .before .before .before .before .before .before .before .before .before .args .t2 in
+    let at-put-place-at4 = c .before .before in
+    let at-put-place-at3 = at-put-place-at4 .before .before .before .before .before in
+    let at-put-place-at2 = at-put-place-at3 .before .before .before .before .before in
+    let at-put-place-at = at-put-place-at2 .before .before .before .before .before in
+    let at-start = at-put-place-at .before .before .before .before in
+    let q = at-start .args .t2 in
     four-steps (withPlaceAt 0 (corner q 0)) (withPlaceAt 2 (corner q 1)) (withPlaceAt 4 (corner q 2)) (withPlaceAt 6 (corner q 3))
-    (c .before .before .before .before .before .before .before .before .before .before .before .before .before .before .before .before .before .before .before .before .before .args .out .now)
-    (c .before .before .before .before .before .before .before .before .before .before .before .before .before .before .before .before .before .put-place-at .ensures)
-    (c .before .before .before .before .before .before .before .before .before .before .before .before .put-place-at2 .ensures)
-    (c .before .before .before .before .before .before .before .put-place-at3 .ensures)
-    (c .before .before .put-place-at4 .ensures)
+    (at-start .args .out .now)
+    (at-put-place-at .put-place-at .ensures)
+    (at-put-place-at2 .put-place-at2 .ensures)
+    (at-put-place-at3 .put-place-at3 .ensures)
+    (at-put-place-at4 .put-place-at4 .ensures)
 
 pub put-corners-spec : {M : Type 1} → statement M
 put-corners-spec =

@@ -38,17 +38,22 @@ same-length c = search needs
 returns : tie.Need-returns
 unfolding withFlags
 returns c =
-    let fs = c .before .before .before .before .before .before .before .before .before .before .before .before .before .before .before .before .before .args .t2 in
+    let at-put-flag4 = c .before .before in
+    let at-put-flag3 = at-put-flag4 .before .before .before .before in
+    let at-put-flag2 = at-put-flag3 .before .before .before .before in
+    let at-put-flag = at-put-flag2 .before .before .before .before in
+    let at-start = at-put-flag .before .before .before in
+    let fs = at-start .args .t2 in
     four-steps
     (λ (s : List ℕ). set s 16 (flagOf fs 0))
     (λ (s : List ℕ). set s 17 (flagOf fs 1))
     (λ (s : List ℕ). set s 18 (flagOf fs 2))
     (λ (s : List ℕ). set s 19 (flagOf fs 3))
-    (c .before .before .before .before .before .before .before .before .before .before .before .before .before .before .before .before .before .args .out .now)
-    (c .before .before .before .before .before .before .before .before .before .before .before .before .before .before .put-flag .ensures)
-    (c .before .before .before .before .before .before .before .before .before .before .put-flag2 .ensures)
-    (c .before .before .before .before .before .before .put-flag3 .ensures)
-    (c .before .before .put-flag4 .ensures)
+    (at-start .args .out .now)
+    (at-put-flag .put-flag .ensures)
+    (at-put-flag2 .put-flag2 .ensures)
+    (at-put-flag3 .put-flag3 .ensures)
+    (at-put-flag4 .put-flag4 .ensures)
 
 pub put-flags-spec : {M : Type 1} → statement M
 put-flags-spec =

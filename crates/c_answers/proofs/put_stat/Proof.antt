@@ -36,18 +36,23 @@ same-length c = search needs
 returns : tie.Need-returns
 unfolding withStat
 returns c =
-    let e = c .before .before .before .before .before .before .before .before .before .before .before .before .before .before .before .before .before .args .e in
-    let i = c .before .before .before .before .before .before .before .before .before .before .before .before .before .before .before .before .before .args .at in
+    let at-put-flag = c .before .before in
+    let at-put-count3 = at-put-flag .before .before .before .before in
+    let at-put-count2 = at-put-count3 .before .before .before .before in
+    let at-put-count = at-put-count2 .before .before .before .before in
+    let at-start = at-put-count .before .before .before in
+    let e = at-start .args .e in
+    let i = at-start .args .at in
     four-steps
     (λ (s : List ℕ). set s i (e .«points_probed»))
     (λ (s : List ℕ). set s (i + 1) (e .«points_fit»))
     (λ (s : List ℕ). set s (i + 2) (e .«dropped_outliers»))
     (λ (s : List ℕ). set s (i + 3) (bit (e .valid)))
-    (c .before .before .before .before .before .before .before .before .before .before .before .before .before .before .before .before .before .args .out .now)
-    (c .before .before .before .before .before .before .before .before .before .before .before .before .before .before .put-count .ensures)
-    (c .before .before .before .before .before .before .before .before .before .before .put-count2 .ensures)
-    (c .before .before .before .before .before .before .put-count3 .ensures)
-    (c .before .before .put-flag .ensures)
+    (at-start .args .out .now)
+    (at-put-count .put-count .ensures)
+    (at-put-count2 .put-count2 .ensures)
+    (at-put-count3 .put-count3 .ensures)
+    (at-put-flag .put-flag .ensures)
 
 pub put-stat-spec : {M : Type 1} → statement M
 put-stat-spec =

@@ -35,13 +35,18 @@ same-length c = search needs
 returns : tie.Need-returns
 unfolding withStats
 returns c =
-    let es = c .before .before .before .before .before .before .before .before .before .before .before .before .before .before .before .before .before .before .before .before .before .args .t2 in
+    let at-put-stat4 = c .before .before in
+    let at-put-stat3 = at-put-stat4 .before .before .before .before .before in
+    let at-put-stat2 = at-put-stat3 .before .before .before .before .before in
+    let at-put-stat = at-put-stat2 .before .before .before .before .before in
+    let at-start = at-put-stat .before .before .before .before in
+    let es = at-start .args .t2 in
     four-steps (withStat 0 (statOf es 0)) (withStat 4 (statOf es 1)) (withStat 8 (statOf es 2)) (withStat 12 (statOf es 3))
-    (c .before .before .before .before .before .before .before .before .before .before .before .before .before .before .before .before .before .before .before .before .before .args .out .now)
-    (c .before .before .before .before .before .before .before .before .before .before .before .before .before .before .before .before .before .put-stat .ensures)
-    (c .before .before .before .before .before .before .before .before .before .before .before .before .put-stat2 .ensures)
-    (c .before .before .before .before .before .before .before .put-stat3 .ensures)
-    (c .before .before .put-stat4 .ensures)
+    (at-start .args .out .now)
+    (at-put-stat .put-stat .ensures)
+    (at-put-stat2 .put-stat2 .ensures)
+    (at-put-stat3 .put-stat3 .ensures)
+    (at-put-stat4 .put-stat4 .ensures)
 
 pub put-stats-spec : {M : Type 1} → statement M
 put-stats-spec =

@@ -19,7 +19,10 @@ same-length c = search needs
 returns : tie.Need-returns
 unfolding withLine
 returns c =
-    simp (c .before .before .put2 .ensures, c .before .before .before .before .before .before .put .ensures, c .before .before .before .before .before .before .before .before .before .before .put-place .ensures)
+    let at-put2 = c .before .before in
+    let at-put = at-put2 .before .before .before .before in
+    let at-put-place = at-put .before .before .before .before in
+    simp (at-put2 .put2 .ensures, at-put .put .ensures, at-put-place .put-place .ensures)
 
 pub put-line-spec : {M : Type 1} → statement M
 put-line-spec =

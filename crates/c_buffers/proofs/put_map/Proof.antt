@@ -22,10 +22,14 @@ same-length c = search needs
 returns : tie.Need-returns
 unfolding withMap
 returns c =
-    let m = c .before .before .before .before .before .before .before .before .before .before .before .before .before .args .m in
-    c .before .before .put-row3 .ensures
+    let at-put-row3 = c .before .before in
+    let at-put-row2 = at-put-row3 .before .before .before .before in
+    let at-put-row = at-put-row2 .before .before .before .before in
+    let at-start = at-put-row .before .before .before in
+    let m = at-start .args .m in
+    at-put-row3 .put-row3 .ensures
     ∙ ap (λ (l : List Float). withRow 6 (m .a13) (m .a23) (m .a33) l)
-    (c .before .before .before .before .before .before .put-row2 .ensures ∙ ap (λ (l : List Float). withRow 3 (m .a12) (m .a22) (m .a32) l) (c .before .before .before .before .before .before .before .before .before .before .put-row .ensures))
+    (at-put-row2 .put-row2 .ensures ∙ ap (λ (l : List Float). withRow 3 (m .a12) (m .a22) (m .a32) l) (at-put-row .put-row .ensures))
 
 pub put-map-spec : {M : Type 1} → statement M
 put-map-spec =

@@ -19,7 +19,9 @@ same-length c = search needs
 returns : tie.Need-returns
 unfolding withPlaceAt
 returns c =
-    simp (c .before .before .put2 .ensures, c .before .before .before .before .before .before .put .ensures)
+    let at-put2 = c .before .before in
+    let at-put = at-put2 .before .before .before .before in
+    simp (at-put2 .put2 .ensures, at-put .put .ensures)
 
 pub put-place-at-spec : {M : Type 1} → statement M
 put-place-at-spec = tie.close (tie.spec put-requires add-put put-requires-2 same-length returns)

@@ -16,7 +16,9 @@ same-length c = search needs
 returns : tie.Need-returns
 unfolding withPoint
 returns c =
-    simp (c .before .before .put .ensures, c .before .before .before .before .before .before .put-place .ensures)
+    let at-put = c .before .before in
+    let at-put-place = at-put .before .before .before .before in
+    simp (at-put .put .ensures, at-put-place .put-place .ensures)
 
 pub put-point-spec : {M : Type 1} → statement M
 put-point-spec = tie.close (tie.spec put-place-requires put-requires same-length returns)

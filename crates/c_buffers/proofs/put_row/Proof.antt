@@ -25,7 +25,10 @@ same-length c = search needs
 returns : tie.Need-returns
 unfolding withRow
 returns c =
-    simp (c .before .before .put3 .ensures, c .before .before .before .before .before .before .put2 .ensures, c .before .before .before .before .before .before .before .before .before .before .put .ensures)
+    let at-put3 = c .before .before in
+    let at-put2 = at-put3 .before .before .before .before in
+    let at-put = at-put2 .before .before .before .before in
+    simp (at-put3 .put3 .ensures, at-put2 .put2 .ensures, at-put .put .ensures)
 
 pub put-row-spec : {M : Type 1} → statement M
 put-row-spec =

@@ -20,7 +20,11 @@ same-length c = search needs
 
 returns : tie.Need-returns
 returns c =
-    (simp (c .before .before .before .before .intersect-lines .ensures, c .before .before .before .before .before .line-of2 .ensures, c .before .before .before .before .before .before .line-of .ensures), simp (c .before .before .put-place .ensures, c .before .before .before .before .intersect-lines .ensures, c .before .before .before .before .before .line-of2 .ensures, c .before .before .before .before .before .before .line-of .ensures))
+    let at-put-place = c .before .before in
+    let at-intersect-lines = at-put-place .before .before in
+    let at-line-of2 = at-intersect-lines .before in
+    let at-line-of = at-line-of2 .before in
+    (simp (at-intersect-lines .intersect-lines .ensures, at-line-of2 .line-of2 .ensures, at-line-of .line-of .ensures), simp (at-put-place .put-place .ensures, at-intersect-lines .intersect-lines .ensures, at-line-of2 .line-of2 .ensures, at-line-of .line-of .ensures))
 
 pub intersect-lines-spec : {M : Type 1} → statement M
 intersect-lines-spec =

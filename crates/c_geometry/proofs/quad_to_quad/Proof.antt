@@ -20,7 +20,11 @@ same-length c = search needs
 
 returns : tie.Need-returns
 returns c =
-    (simp (c .before .before .before .before .quad-to-quad .ensures, c .before .before .before .before .before .quad-of2 .ensures, c .before .before .before .before .before .before .quad-of .ensures), simp (c .before .before .put-map .ensures, c .before .before .before .before .quad-to-quad .ensures, c .before .before .before .before .before .quad-of2 .ensures, c .before .before .before .before .before .before .quad-of .ensures))
+    let at-put-map = c .before .before in
+    let at-quad-to-quad = at-put-map .before .before in
+    let at-quad-of2 = at-quad-to-quad .before in
+    let at-quad-of = at-quad-of2 .before in
+    (simp (at-quad-to-quad .quad-to-quad .ensures, at-quad-of2 .quad-of2 .ensures, at-quad-of .quad-of .ensures), simp (at-put-map .put-map .ensures, at-quad-to-quad .quad-to-quad .ensures, at-quad-of2 .quad-of2 .ensures, at-quad-of .quad-of .ensures))
 
 pub quad-to-quad-spec : {M : Type 1} → statement M
 quad-to-quad-spec =

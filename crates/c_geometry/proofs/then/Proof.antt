@@ -20,7 +20,11 @@ same-length c = search needs
 
 returns : tie.Need-returns
 returns c =
-    simp (c .before .before .put-map .ensures, c .before .before .before .then .ensures, c .before .before .before .before .before .map-of2 .ensures, c .before .before .before .before .before .before .map-of .ensures)
+    let at-put-map = c .before .before in
+    let at-then = at-put-map .before in
+    let at-map-of2 = at-then .before .before in
+    let at-map-of = at-map-of2 .before in
+    simp (at-put-map .put-map .ensures, at-then .then .ensures, at-map-of2 .map-of2 .ensures, at-map-of .map-of .ensures)
 
 pub then-spec : {M : Type 1} → statement M
 then-spec =

@@ -31,7 +31,13 @@ float-at-requires-8 c κs = search needs
 returns : tie.Need-returns
 unfolding quadOf
 returns c =
-    simp (c .float-at8 .ensures, c .before .float-at7 .ensures, c .before .before .float-at6 .ensures, c .before .before .before .float-at5 .ensures, c .before .before .before .before .float-at4 .ensures, c .before .before .before .before .before .float-at3 .ensures, c .before .before .before .before .before .before .float-at2 .ensures, c .before .before .before .before .before .before .before .float-at .ensures)
+    let at-float-at6 = c .before .before in
+    let at-float-at5 = at-float-at6 .before in
+    let at-float-at4 = at-float-at5 .before in
+    let at-float-at3 = at-float-at4 .before in
+    let at-float-at2 = at-float-at3 .before in
+    let at-float-at = at-float-at2 .before in
+    simp (c .float-at8 .ensures, c .before .float-at7 .ensures, at-float-at6 .float-at6 .ensures, at-float-at5 .float-at5 .ensures, at-float-at4 .float-at4 .ensures, at-float-at3 .float-at3 .ensures, at-float-at2 .float-at2 .ensures, at-float-at .float-at .ensures)
 
 pub quad-of-spec : {M : Type 1} → statement M
 quad-of-spec =

@@ -25,7 +25,9 @@ abbrev μ-loop : tie.MeasureT-loop
 
 loop-holds : tie.Need-loop-holds Inv-loop μ-loop
 unfolding pointsOf
-loop-holds c = let a = c .before .before .before .before .before .before .before .before .before .before .before .before .args in
+loop-holds c =
+    let at-start = c .before .before .before .before .before .before .before .before .before .before .before .before in
+    let a = at-start .args in
     (omega arith, omega arith, refl, refl, refl, none-probed _ _ _ (a .search .probes .probes) (a .search .probes .count) _)
 
 mul-probe-ray : tie.Need-mul-probe-ray Inv-loop μ-loop

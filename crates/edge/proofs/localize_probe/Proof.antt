@@ -20,7 +20,10 @@ same-length-2 c = search needs
 
 returns-2 : tie.Need-returns-2
 unfolding localizeProbe
-returns-2 c = rw (c .before .before .before .before .before .before .before .before .if1 .left) (c .before .before .before .before .localize .ensures)
+returns-2 c =
+    let at-localize = c .before .before .before .before in
+    let at-if1 = at-localize .before .before .before .before in
+    rw (at-if1 .if1 .left) (at-localize .localize .ensures)
 
 pub localize-probe-spec : {M : Type 1} → statement M
 localize-probe-spec =

@@ -29,7 +29,12 @@ same-length-2 c = search needs
 
 returns-2 : tie.Need-returns-2
 unfolding edge
-returns-2 c = rw (← c .before .before .before .before .before .before .before .before .before .before .length-of .ensures, c .before .before .before .before .before .before .before .before .before .if1 .left, ← c .before .before .before .before .before .before .before .before .probes-of .ensures .probes) (c .before .before .before .before .fit-probes .ensures)
+returns-2 c =
+    let at-fit-probes = c .before .before .before .before in
+    let at-probes-of = at-fit-probes .before .before .before .before in
+    let at-if1 = at-probes-of .before in
+    let at-length-of = at-if1 .before in
+    rw (← at-length-of .length-of .ensures, at-if1 .if1 .left, ← at-probes-of .probes-of .ensures .probes) (at-fit-probes .fit-probes .ensures)
 
 pub refine-edge-spec : {M : Type 1} → statement M
 refine-edge-spec =

@@ -40,7 +40,12 @@ unfolding atBorder
 returns c = rw (c .enum-told .given .1)
 
 returns-2 : tie.Need-returns-2
-returns-2 c = clamped-footprint _ _ _ _ _ (c .before .before .before .before .before .before .before .enum-told2 .given .1) (c .before .before .before .before .before .before .last .ensures) (c .before .before .before .before .clamp .ensures) (c .before .before .before .last2 .ensures) (c .before .clamp2 .ensures) (c .interior-cell .ensures)
+returns-2 c =
+    let at-last2 = c .before .before .before in
+    let at-clamp = at-last2 .before in
+    let at-last = at-clamp .before .before in
+    let at-enum-told2 = at-last .before in
+    clamped-footprint _ _ _ _ _ (at-enum-told2 .enum-told2 .given .1) (at-last .last .ensures) (at-clamp .clamp .ensures) (at-last2 .last2 .ensures) (c .before .clamp2 .ensures) (c .interior-cell .ensures)
 
 returns-3 : tie.Need-returns-3
 unfolding atBorder

@@ -31,7 +31,13 @@ at-border-requires : tie.Need-at-border-requires
 at-border-requires c κs = search needs
 
 returns-4 : tie.Need-returns-4
-returns-4 c = c .at-border .ensures ∙ off-outside _ _ _ _ _ (passed (c .before .before .before .before .is-finite .ensures) (c .before .before .before .if2 .left)) (passed (c .before .before .is-finite2 .ensures) (c .before .if3 .left)) (sym (c .before .before .before .before .before .before .is-inside .ensures) ∙ c .before .before .before .before .before .if1 .left)
+returns-4 c =
+    let at-is-finite2 = c .before .before in
+    let at-if2 = at-is-finite2 .before in
+    let at-is-finite = at-if2 .before in
+    let at-if1 = at-is-finite .before in
+    let at-is-inside = at-if1 .before in
+    c .at-border .ensures ∙ off-outside _ _ _ _ _ (passed (at-is-finite .is-finite .ensures) (at-if2 .if2 .left)) (passed (at-is-finite2 .is-finite2 .ensures) (c .before .if3 .left)) (sym (at-is-inside .is-inside .ensures) ∙ at-if1 .if1 .left)
 
 pub footprint-at-spec : {M : Type 1} → statement M
 footprint-at-spec =

@@ -18,7 +18,13 @@ int-to-float-result : tie.Need-int-to-float-result
 int-to-float-result c = search needs
 
 returns : tie.Need-returns
-returns c = inside-below _ _ (omega (arith, c .before .before .before .before .before .before .before .fits .width)) (omega (arith, c .before .before .before .before .before .before .before .fits .height)) _ _ (c .before .before .before .before .before .before .if1 .taken) (c .before .before .before .before .before .last .ensures) (c .before .before .before .if2 .taken) (c .before .before .if3 .taken) (c .before .last2 .ensures)
+returns c =
+    let at-if3 = c .before .before in
+    let at-if2 = at-if3 .before in
+    let at-last = at-if2 .before .before in
+    let at-if1 = at-last .before in
+    let at-fits = at-if1 .before in
+    inside-below _ _ (omega (arith, at-fits .fits .width)) (omega (arith, at-fits .fits .height)) _ _ (at-if1 .if1 .taken) (at-last .last .ensures) (at-if2 .if2 .taken) (at-if3 .if3 .taken) (c .before .last2 .ensures)
 
 returns-2 : tie.Need-returns-2
 returns-2 c = inside-above _ _ (omega (arith, c .before .before .before .before .before .fits .width)) (omega (arith, c .before .before .before .before .before .fits .height)) _ _ (c .before .before .before .before .if1 .taken) (c .before .before .before .last .ensures) (c .before .if2 .taken) (c .if3 .left)

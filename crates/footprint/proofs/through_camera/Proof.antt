@@ -28,7 +28,13 @@ project-requires : tie.Need-project-requires
 project-requires c κs = search needs
 
 returns-4 : tie.Need-returns-4
-returns-4 c = carried-place _ _ (passed (c .before .before .before .before .before .before .is-finite .ensures) (c .before .before .before .before .before .if1 .left)) (passed (c .before .before .before .before .is-finite2 .ensures) (c .before .before .before .if2 .left)) (sym (c .before .before .is-identity .ensures) ∙ c .before .if3 .left) (c .project .ensures)
+returns-4 c =
+    let at-is-identity = c .before .before in
+    let at-if2 = at-is-identity .before in
+    let at-is-finite2 = at-if2 .before in
+    let at-if1 = at-is-finite2 .before in
+    let at-is-finite = at-if1 .before in
+    carried-place _ _ (passed (at-is-finite .is-finite .ensures) (at-if1 .if1 .left)) (passed (at-is-finite2 .is-finite2 .ensures) (at-if2 .if2 .left)) (sym (at-is-identity .is-identity .ensures) ∙ c .before .if3 .left) (c .project .ensures)
 
 pub through-camera-spec : {M : Type 1} → statement M
 through-camera-spec =

@@ -9,7 +9,9 @@ returns c = simp (c .if1 .taken)
 
 returns-2 : tie.Need-returns-2
 unfolding affine
-returns-2 c = simp (c .before .before .before .before .before .before .before .before .if1 .left)
+returns-2 c =
+    let at-if1 = c .before .before .before .before .before .before .before .before in
+    simp (at-if1 .if1 .left)
 
 pub affine-map-spec : {M : Type 1} → statement M
 affine-map-spec = tie.close (tie.spec returns returns-2)

@@ -33,7 +33,9 @@ then-requires c κs = search needs
 returns-3 : tie.Need-returns-3
 unfolding joined
 returns-3 c =
-    simp (c .before .before .before .before .before .before .from .given .1, c .before .before .before .to .given .1, c .then .ensures, c .before .inverse .ensures)
+    let at-to = c .before .before .before in
+    let at-from = at-to .before .before .before in
+    simp (at-from .from .given .1, at-to .to .given .1, c .then .ensures, c .before .inverse .ensures)
 
 pub joined-map-spec : {M : Type 1} → statement M
 joined-map-spec =

@@ -17,8 +17,10 @@ int-to-float-if2 c = search needs
 
 returns : tie.Need-returns
 returns c =
-    let guess = c .before .before .before .before .whole-guess in
-    let x = c .before .before .before .before .before .before .args .x in
+    let at-whole-guess = c .before .before .before .before in
+    let at-start = at-whole-guess .before .before in
+    let guess = at-whole-guess .whole-guess in
+    let x = at-start .args .x in
     split-at x (accepted (guess .result) x (omega (arith, guess .ok)) (c .before .if2 .taken) (c .if3 .taken))
 
 whole-digits-requires : tie.Need-whole-digits-requires
@@ -28,7 +30,9 @@ int-to-float-t7 : tie.Need-int-to-float-t7
 int-to-float-t7 c = search needs
 
 returns-2 : tie.Need-returns-2
-returns-2 c = split-at (c .before .before .before .before .before .before .before .args .x) (c .before .whole-digits .ensures)
+returns-2 c =
+    let at-start = c .before .before .before .before .before .before .before in
+    split-at (at-start .args .x) (c .before .whole-digits .ensures)
 
 int-to-float-t11 : tie.Need-int-to-float-t11
 int-to-float-t11 c = search needs

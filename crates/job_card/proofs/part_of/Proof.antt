@@ -60,8 +60,10 @@ part-result-end-2 c = search needs
 
 returns-2 : tie.Need-returns-2
 returns-2 c =
-    let args = c .before .before .before .before .before .before .before .before .before .args in
-    let absent = nowhere (hasField (args .card .now) (args .tag)) (startAt (args .card .now) (args .tag)) (sym (c .before .enum-told2 .given .1) ∙ c .before .before .before .field-end .ensures) in
+    let at-field-end = c .before .before .before in
+    let at-start = at-field-end .before .before .before .before .before .before in
+    let args = at-start .args in
+    let absent = nowhere (hasField (args .card .now) (args .tag)) (startAt (args .card .now) (args .tag)) (sym (c .before .enum-told2 .given .1) ∙ at-field-end .field-end .ensures) in
     rw (broken (args .card .now) (args .tag) (args .tag) (omega arith) (omega arith) absent)
 
 -- the field that the two walks have come to

@@ -50,7 +50,8 @@ loop-less c = search needs
 
 loop-again : tie.Need-loop-again Inv-loop μ-loop
 loop-again c =
-    let l = c .before .before .before .before .before .before .loop .inv in
+    let at-loop = c .before .before .before .before .before .before in
+    let l = at-loop .loop .inv in
     (omega arith, sum-turn _ _ _ (l .1), sum-turn _ _ _ (l .2), sum-turn _ _ _ (l .3))
 
 returns : tie.Need-returns Inv-loop μ-loop

@@ -33,7 +33,10 @@ returns c = aitken-by _ _ _ _ (sym (c .before .before .extrapolate .ensures) ∙
 
 returns-2 : tie.Need-returns-2
 unfolding moved
-returns-2 c = aitken-by _ _ _ _ (sym (c .before .before .before .before .before .before .before .extrapolate .ensures) ∙ c .before .before .before .before .before .limit .given .1)
+returns-2 c =
+    let at-limit = c .before .before .before .before .before in
+    let at-extrapolate = at-limit .before .before in
+    aitken-by _ _ _ _ (sym (at-extrapolate .extrapolate .ensures) ∙ at-limit .limit .given .1)
 
 returns-3 : tie.Need-returns-3
 unfolding moved

@@ -8,7 +8,10 @@ gradients-of-requires : tie.Need-gradients-of-requires
 gradients-of-requires c κs = search needs
 
 returns : tie.Need-returns
-returns c = rw (c .before .before .before .before .before .before .before .before .before .if1 .taken) (unfolded _ (c .before .before .before .before .before .before .before .before .before .before .gradients-of .ensures))
+returns c =
+    let at-if1 = c .before .before .before .before .before .before .before .before .before in
+    let at-gradients-of = at-if1 .before in
+    rw (at-if1 .if1 .taken) (unfolded _ (at-gradients-of .gradients-of .ensures))
 
 returns-2 : tie.Need-returns-2
 returns-2 c = rw (c .if1 .left) (kept _ (c .before .gradients-of .ensures))

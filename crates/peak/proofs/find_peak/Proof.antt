@@ -36,10 +36,18 @@ vertex-requires-2 c κs = search needs
 
 returns-2 : tie.Need-returns-2
 unfolding peak innerGradients
-returns-2 c = let f : ℕ → Float = corrected (c .before .before .before .before .before .before .before .before .args .inward-differs) (c .before .before .before .before .before .before .before .before .args .s) in
-    let e = c .before .before .before .before .before .before .before .corrected .ensures in
+returns-2 c =
+    let at-above-contrast-floor3 = c .before .before in
+    let at-if2 = at-above-contrast-floor3 .before in
+    let at-above-contrast-floor2 = at-if2 .before in
+    let at-if1 = at-above-contrast-floor2 .before in
+    let at-above-contrast-floor = at-if1 .before in
+    let at-corrected = at-above-contrast-floor .before in
+    let at-start = at-corrected .before in
+    let f : ℕ → Float = corrected (at-start .args .inward-differs) (at-start .args .s) in
+    let e = at-corrected .corrected .ensures in
     peaked f e around-2 (c .vertex2 .ensures)
-    ∙ at-2 _ _ f (said f e _ _ third (c .before .before .before .before .before .before .above-contrast-floor .ensures) (c .before .before .before .before .before .if1 .left)) (said f e _ _ second (c .before .before .before .before .above-contrast-floor2 .ensures) (c .before .before .before .if2 .taken)) (said f e _ _ fourth (c .before .before .above-contrast-floor3 .ensures) (not-true _ (c .before .if3 .taken)))
+    ∙ at-2 _ _ f (said f e _ _ third (at-above-contrast-floor .above-contrast-floor .ensures) (at-if1 .if1 .left)) (said f e _ _ second (at-above-contrast-floor2 .above-contrast-floor2 .ensures) (at-if2 .if2 .taken)) (said f e _ _ fourth (at-above-contrast-floor3 .above-contrast-floor3 .ensures) (not-true _ (c .before .if3 .taken)))
 
 abs-requires : tie.Need-abs-requires
 abs-requires c κs = search needs
@@ -52,22 +60,44 @@ vertex-requires-3 c κs = search needs
 
 returns-3 : tie.Need-returns-3
 unfolding peak innerGradients
-returns-3 c = let f : ℕ → Float = corrected (c .before .before .before .before .before .before .before .before .before .before .before .args .inward-differs) (c .before .before .before .before .before .before .before .before .before .before .before .args .s) in
-    let e = c .before .before .before .before .before .before .before .before .before .before .corrected .ensures in
+returns-3 c =
+    let at-abs2 = c .before .before in
+    let at-abs = at-abs2 .before in
+    let at-if3 = at-abs .before in
+    let at-above-contrast-floor3 = at-if3 .before in
+    let at-if2 = at-above-contrast-floor3 .before in
+    let at-above-contrast-floor2 = at-if2 .before in
+    let at-if1 = at-above-contrast-floor2 .before in
+    let at-above-contrast-floor = at-if1 .before in
+    let at-corrected = at-above-contrast-floor .before in
+    let at-start = at-corrected .before in
+    let f : ℕ → Float = corrected (at-start .args .inward-differs) (at-start .args .s) in
+    let e = at-corrected .corrected .ensures in
     peaked f e around-4 (c .vertex3 .ensures)
-    ∙ at-4-over _ _ f (said f e _ _ third (c .before .before .before .before .before .before .before .before .before .above-contrast-floor .ensures) (c .before .before .before .before .before .before .before .before .if1 .left)) (said f e _ _ second (c .before .before .before .before .before .before .before .above-contrast-floor2 .ensures) (c .before .before .before .before .before .before .if2 .taken)) (said f e _ _ fourth (c .before .before .before .before .before .above-contrast-floor3 .ensures) (not-false _ (c .before .before .before .before .if3 .left)))
-    (less f e second fourth (c .before .before .before .abs .ensures) (c .before .before .abs2 .ensures) (c .before .if4 .taken))
+    ∙ at-4-over _ _ f (said f e _ _ third (at-above-contrast-floor .above-contrast-floor .ensures) (at-if1 .if1 .left)) (said f e _ _ second (at-above-contrast-floor2 .above-contrast-floor2 .ensures) (at-if2 .if2 .taken)) (said f e _ _ fourth (at-above-contrast-floor3 .above-contrast-floor3 .ensures) (not-false _ (at-if3 .if3 .left)))
+    (less f e second fourth (at-abs .abs .ensures) (at-abs2 .abs2 .ensures) (c .before .if4 .taken))
 
 vertex-requires-4 : tie.Need-vertex-requires-4
 vertex-requires-4 c κs = search needs
 
 returns-4 : tie.Need-returns-4
 unfolding peak innerGradients
-returns-4 c = let f : ℕ → Float = corrected (c .before .before .before .before .before .before .before .before .before .before .before .args .inward-differs) (c .before .before .before .before .before .before .before .before .before .before .before .args .s) in
-    let e = c .before .before .before .before .before .before .before .before .before .before .corrected .ensures in
+returns-4 c =
+    let at-abs2 = c .before .before in
+    let at-abs = at-abs2 .before in
+    let at-if3 = at-abs .before in
+    let at-above-contrast-floor3 = at-if3 .before in
+    let at-if2 = at-above-contrast-floor3 .before in
+    let at-above-contrast-floor2 = at-if2 .before in
+    let at-if1 = at-above-contrast-floor2 .before in
+    let at-above-contrast-floor = at-if1 .before in
+    let at-corrected = at-above-contrast-floor .before in
+    let at-start = at-corrected .before in
+    let f : ℕ → Float = corrected (at-start .args .inward-differs) (at-start .args .s) in
+    let e = at-corrected .corrected .ensures in
     peaked f e around-2 (c .vertex4 .ensures)
-    ∙ at-2-over _ _ f (said f e _ _ third (c .before .before .before .before .before .before .before .before .before .above-contrast-floor .ensures) (c .before .before .before .before .before .before .before .before .if1 .left)) (said f e _ _ second (c .before .before .before .before .before .before .before .above-contrast-floor2 .ensures) (c .before .before .before .before .before .before .if2 .taken)) (said f e _ _ fourth (c .before .before .before .before .before .above-contrast-floor3 .ensures) (not-false _ (c .before .before .before .before .if3 .left)))
-    (less f e second fourth (c .before .before .before .abs .ensures) (c .before .before .abs2 .ensures) (c .before .if4 .left))
+    ∙ at-2-over _ _ f (said f e _ _ third (at-above-contrast-floor .above-contrast-floor .ensures) (at-if1 .if1 .left)) (said f e _ _ second (at-above-contrast-floor2 .above-contrast-floor2 .ensures) (at-if2 .if2 .taken)) (said f e _ _ fourth (at-above-contrast-floor3 .above-contrast-floor3 .ensures) (not-false _ (at-if3 .if3 .left)))
+    (less f e second fourth (at-abs .abs .ensures) (at-abs2 .abs2 .ensures) (c .before .if4 .left))
 
 above-contrast-floor-requires-4 : tie.Need-above-contrast-floor-requires-4
 above-contrast-floor-requires-4 c κs = search needs
@@ -77,16 +107,31 @@ vertex-requires-5 c κs = search needs
 
 returns-5 : tie.Need-returns-5
 unfolding peak innerGradients
-returns-5 c = let f : ℕ → Float = corrected (c .before .before .before .before .before .before .before .before .args .inward-differs) (c .before .before .before .before .before .before .before .before .args .s) in
-    let e = c .before .before .before .before .before .before .before .corrected .ensures in
+returns-5 c =
+    let at-above-contrast-floor4 = c .before .before in
+    let at-if2 = at-above-contrast-floor4 .before in
+    let at-above-contrast-floor2 = at-if2 .before in
+    let at-if1 = at-above-contrast-floor2 .before in
+    let at-above-contrast-floor = at-if1 .before in
+    let at-corrected = at-above-contrast-floor .before in
+    let at-start = at-corrected .before in
+    let f : ℕ → Float = corrected (at-start .args .inward-differs) (at-start .args .s) in
+    let e = at-corrected .corrected .ensures in
     peaked f e around-4 (c .vertex5 .ensures)
-    ∙ at-4 _ _ f (said f e _ _ third (c .before .before .before .before .before .before .above-contrast-floor .ensures) (c .before .before .before .before .before .if1 .left)) (said f e _ _ second (c .before .before .before .before .above-contrast-floor2 .ensures) (c .before .before .before .if2 .left)) (said f e _ _ fourth (c .before .before .above-contrast-floor4 .ensures) (c .before .if5 .taken))
+    ∙ at-4 _ _ f (said f e _ _ third (at-above-contrast-floor .above-contrast-floor .ensures) (at-if1 .if1 .left)) (said f e _ _ second (at-above-contrast-floor2 .above-contrast-floor2 .ensures) (at-if2 .if2 .left)) (said f e _ _ fourth (at-above-contrast-floor4 .above-contrast-floor4 .ensures) (c .before .if5 .taken))
 
 returns-6 : tie.Need-returns-6
 unfolding peak innerGradients
-returns-6 c = let f : ℕ → Float = corrected (c .before .before .before .before .before .before .before .args .inward-differs) (c .before .before .before .before .before .before .before .args .s) in
-    let e = c .before .before .before .before .before .before .corrected .ensures in
-    nowhere _ _ f (said f e _ _ third (c .before .before .before .before .before .above-contrast-floor .ensures) (c .before .before .before .before .if1 .left)) (said f e _ _ second (c .before .before .before .above-contrast-floor2 .ensures) (c .before .before .if2 .left)) (said f e _ _ fourth (c .before .above-contrast-floor4 .ensures) (c .if5 .left))
+returns-6 c =
+    let at-if2 = c .before .before in
+    let at-above-contrast-floor2 = at-if2 .before in
+    let at-if1 = at-above-contrast-floor2 .before in
+    let at-above-contrast-floor = at-if1 .before in
+    let at-corrected = at-above-contrast-floor .before in
+    let at-start = at-corrected .before in
+    let f : ℕ → Float = corrected (at-start .args .inward-differs) (at-start .args .s) in
+    let e = at-corrected .corrected .ensures in
+    nowhere _ _ f (said f e _ _ third (at-above-contrast-floor .above-contrast-floor .ensures) (at-if1 .if1 .left)) (said f e _ _ second (at-above-contrast-floor2 .above-contrast-floor2 .ensures) (at-if2 .if2 .left)) (said f e _ _ fourth (c .before .above-contrast-floor4 .ensures) (c .if5 .left))
 
 pub find-peak-spec : {M : Type 1} → statement M
 find-peak-spec =

@@ -30,7 +30,14 @@ abs-requires-3 : tie.Need-abs-requires-3
 abs-requires-3 c κs = search needs
 
 returns-4 : tie.Need-returns-4
-returns-4 c = near _ _ _ _ (under _ (c .before .before .before .before .before .before .before .abs .ensures) (c .before .before .before .before .before .before .if1 .left)) (passed (c .before .before .before .before .before .is-finite .ensures) (c .before .before .before .before .if2 .left)) (over _ (c .before .before .before .abs2 .ensures) (c .before .before .if3 .left)) (c .abs3 .ensures)
+returns-4 c =
+    let at-if3 = c .before .before in
+    let at-abs2 = at-if3 .before in
+    let at-if2 = at-abs2 .before in
+    let at-is-finite = at-if2 .before in
+    let at-if1 = at-is-finite .before in
+    let at-abs = at-if1 .before in
+    near _ _ _ _ (under _ (at-abs .abs .ensures) (at-if1 .if1 .left)) (passed (at-is-finite .is-finite .ensures) (at-if2 .if2 .left)) (over _ (at-abs2 .abs2 .ensures) (at-if3 .if3 .left)) (c .abs3 .ensures)
 
 pub vertex-spec : {M : Type 1} → statement M
 vertex-spec =

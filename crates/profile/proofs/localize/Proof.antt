@@ -70,11 +70,15 @@ loop-less : tie.Need-loop-less Inv-loop μ-loop Inv-passes μ-passes
 loop-less c = omega arith
 
 loop-again : tie.Need-loop-again Inv-loop μ-loop Inv-passes μ-passes
-loop-again c = let inv = c .before .before .before .before .before .before .before .before .before .before .before .before .before .before .loop .inv in (
-  omega arith,
-  simp length-set (inv .1),
-  went-on _ _ _ _ _ (omega arith) (inv .1) (c .before .sampled .given .1) (inv .2) (c .before .before .before .before .before .before .before .before .before .before .before .offset-along .ensures) (c .before .before .before .before .before .before .before .before .sample-source .ensures),
-)
+loop-again c =
+    let at-sample-source = c .before .before .before .before .before .before .before .before in
+    let at-offset-along = at-sample-source .before .before .before in
+    let at-loop = at-offset-along .before .before .before in
+    let inv = at-loop .loop .inv in (
+      omega arith,
+      simp length-set (inv .1),
+      went-on _ _ _ _ _ (omega arith) (inv .1) (c .before .sampled .given .1) (inv .2) (at-offset-along .offset-along .ensures) (at-sample-source .sample-source .ensures),
+    )
 
 find-peak-requires : tie.Need-find-peak-requires Inv-loop μ-loop Inv-passes μ-passes
 find-peak-requires c κs = search needs
@@ -104,13 +108,18 @@ passes-less : tie.Need-passes-less Inv-loop μ-loop Inv-passes μ-passes
 passes-less c = omega arith
 
 passes-again : tie.Need-passes-again Inv-loop μ-loop Inv-passes μ-passes
-passes-again c = let i = c .before .before .before .before .before .before .before .loop .inv in
-    let inv = c .before .before .before .before .before .before .before .before .before .before .passes .inv in (
+passes-again c =
+    let at-peak = c .before .before .before in
+    let at-find-peak = at-peak .before .before in
+    let at-loop = at-find-peak .before .before in
+    let at-passes = at-loop .before .before .before in
+    let i = at-loop .loop .inv in
+    let inv = at-passes .passes .inv in (
       omega arith,
       i .1,
       simp length-set (inv .2),
       pass-done _ _ _ _ _ _ (omega arith) (inv .2) (inv .3) (ended _ _ _ _ (i .0) (omega arith) (i .1) (i .2))
-          (c .before .before .before .before .before .find-peak .ensures) (c .before .before .before .peak .given .1) (c .before .offset-along2 .ensures) (c .projection .ensures),
+          (at-find-peak .find-peak .ensures) (at-peak .peak .given .1) (c .before .offset-along2 .ensures) (c .projection .ensures),
     )
 
 -- ---- where the ways out of the passes meet

@@ -39,11 +39,21 @@ no-point-requires-2 c κs = search needs
 
 returns-2 : tie.Need-returns-2
 unfolding pointAnswer
-returns-2 c = ended _ _ _ _ (c .before .before .before .before .before .before .before .before .before .before .view-number .ensures) (c .before .before .before .before .before .before .before .before .before .if1 .left) (c .before .before .before .before .before .before .before .before .defaults .ensures) (ran-value _ _ (c .before .before .before .before .before .localize .ensures)) (c .before .located .given .1)
+returns-2 c =
+    let at-localize = c .before .before .before .before .before in
+    let at-defaults = at-localize .before .before .before in
+    let at-if1 = at-defaults .before in
+    let at-view-number = at-if1 .before in
+    ended _ _ _ _ (at-view-number .view-number .ensures) (at-if1 .if1 .left) (at-defaults .defaults .ensures) (ran-value _ _ (at-localize .localize .ensures)) (c .before .located .given .1)
 
 returns-3 : tie.Need-returns-3
 unfolding pointAnswer
-returns-3 c = c .no-point2 .ensures ∙ ended _ _ _ _ (c .before .before .before .before .before .before .before .before .before .before .view-number .ensures) (c .before .before .before .before .before .before .before .before .before .if1 .left) (c .before .before .before .before .before .before .before .before .defaults .ensures) (ran-value _ _ (c .before .before .before .before .before .localize .ensures)) (c .before .enum-told .given .1)
+returns-3 c =
+    let at-localize = c .before .before .before .before .before in
+    let at-defaults = at-localize .before .before .before in
+    let at-if1 = at-defaults .before in
+    let at-view-number = at-if1 .before in
+    c .no-point2 .ensures ∙ ended _ _ _ _ (at-view-number .view-number .ensures) (at-if1 .if1 .left) (at-defaults .defaults .ensures) (ran-value _ _ (at-localize .localize .ensures)) (c .before .enum-told .given .1)
 
 pub localize-edge-point-spec : {M : Type 1} → statement M
 localize-edge-point-spec =

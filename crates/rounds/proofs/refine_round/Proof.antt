@@ -32,7 +32,11 @@ same-length-2 : tie.Need-same-length-2
 same-length-2 c = search needs
 
 returns-2 : tie.Need-returns-2
-returns-2 c = edges-ran _ _ _ _ (c .before .before .before .before .before .before .before .before .before .before .before .before .before .quad-map .ensures) (c .before .before .before .before .before .before .before .before .before .before .before .map .given .1) (c .before .before .before .before .before .before .before .fit-edges .ensures) (c .round-end .ensures)
+returns-2 c =
+    let at-fit-edges = c .before .before .before .before .before .before .before in
+    let at-map = at-fit-edges .before .before .before .before in
+    let at-quad-map = at-map .before .before in
+    edges-ran _ _ _ _ (at-quad-map .quad-map .ensures) (at-map .map .given .1) (at-fit-edges .fit-edges .ensures) (c .round-end .ensures)
 
 pub refine-round-spec : {M : Type 1} → statement M
 refine-round-spec =

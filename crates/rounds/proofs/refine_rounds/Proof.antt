@@ -14,7 +14,9 @@ same-length-2 : tie.Need-same-length-2
 same-length-2 c = search needs
 
 returns : tie.Need-returns
-returns c = first-stops _ _ _ _ (c .before .before .before .before .before .before .before .refine-round .ensures) (c .if1 .taken)
+returns c =
+    let at-refine-round = c .before .before .before .before .before .before .before in
+    first-stops _ _ _ _ (at-refine-round .refine-round .ensures) (c .if1 .taken)
 
 remaining-rounds-requires : tie.Need-remaining-rounds-requires
 remaining-rounds-requires c κs = search needs
@@ -26,7 +28,11 @@ same-length-4 : tie.Need-same-length-4
 same-length-4 c = search needs
 
 returns-2 : tie.Need-returns-2
-returns-2 c = rounds-ran _ _ _ _ (c .before .before .before .before .before .before .before .before .before .before .before .before .before .before .refine-round .ensures) (c .before .before .before .before .before .before .before .if1 .left) (c .before .before .before .before .remaining-rounds .ensures)
+returns-2 c =
+    let at-remaining-rounds = c .before .before .before .before in
+    let at-if1 = at-remaining-rounds .before .before .before in
+    let at-refine-round = at-if1 .before .before .before .before .before .before .before in
+    rounds-ran _ _ _ _ (at-refine-round .refine-round .ensures) (at-if1 .if1 .left) (at-remaining-rounds .remaining-rounds .ensures)
 
 pub refine-rounds-spec : {M : Type 1} → statement M
 refine-rounds-spec =

@@ -18,10 +18,14 @@ place-requires-4 : tie.Need-place-requires-4
 place-requires-4 c κs = search needs
 
 shared-slice-read-t12 : tie.Need-shared-slice-read-t12
-shared-slice-read-t12 c = let pre = c .before .before .before .before .before .before .pre in let k = cell-places _ _ _ _ _ _ (pre .0) (pre .1) (pre .2) in omega (arith, k .0)
+shared-slice-read-t12 c =
+    let at-pre = c .before .before .before .before .before .before in
+    let pre = at-pre .pre in let k = cell-places _ _ _ _ _ _ (pre .0) (pre .1) (pre .2) in omega (arith, k .0)
 
 shared-slice-read-t14 : tie.Need-shared-slice-read-t14
-shared-slice-read-t14 c = let pre = c .before .before .before .before .before .before .before .pre in let k = cell-places _ _ _ _ _ _ (pre .0) (pre .1) (pre .2) in omega (arith, k .1)
+shared-slice-read-t14 c =
+    let at-pre = c .before .before .before .before .before .before .before in
+    let pre = at-pre .pre in let k = cell-places _ _ _ _ _ _ (pre .0) (pre .1) (pre .2) in omega (arith, k .1)
 
 shared-slice-read-t16 : tie.Need-shared-slice-read-t16
 shared-slice-read-t16 c = search needs

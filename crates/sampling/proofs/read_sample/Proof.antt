@@ -21,11 +21,16 @@ enum-known-footprint-2 c = search needs
 
 cell-at-requires : tie.Need-cell-at-requires
 unfolding Ordered
-cell-at-requires c κs = subst (λ (z : Footprint). Ordered z) (c .before .footprint2 .given .1) (c .before .before .before .before .before .before .pre)
+cell-at-requires c κs =
+    let at-pre = c .before .before .before .before .before .before in
+    subst (λ (z : Footprint). Ordered z) (c .before .footprint2 .given .1) (at-pre .pre)
 
 mark-cell-requires : tie.Need-mark-cell-requires
 unfolding Ordered
-mark-cell-requires c κs = subst (λ (z : Footprint). Ordered z) (c .before .before .before .before .footprint2 .given .1) (c .before .before .before .before .before .before .before .before .before .pre)
+mark-cell-requires c κs =
+    let at-footprint2 = c .before .before .before .before in
+    let at-pre = at-footprint2 .before .before .before .before .before in
+    subst (λ (z : Footprint). Ordered z) (at-footprint2 .footprint2 .given .1) (at-pre .pre)
 
 bilinear-of-requires : tie.Need-bilinear-of-requires
 bilinear-of-requires c κs = search needs
@@ -43,7 +48,11 @@ same-length-2 : tie.Need-same-length-2
 same-length-2 c = search needs
 
 returns-3 : tie.Need-returns-3
-returns-3 c = reads-cell _ _ _ _ _ _ _ _ _ (c .before .before .before .before .before .before .before .before .before .before .footprint2 .given .1) (c .before .before .before .before .before .before .before .before .cell-at .ensures) (c .before .before .before .before .before .mark-cell .ensures) (c .bilinear-of .ensures)
+returns-3 c =
+    let at-mark-cell = c .before .before .before .before .before in
+    let at-cell-at = at-mark-cell .before .before .before in
+    let at-footprint2 = at-cell-at .before .before in
+    reads-cell _ _ _ _ _ _ _ _ _ (at-footprint2 .footprint2 .given .1) (at-cell-at .cell-at .ensures) (at-mark-cell .mark-cell .ensures) (c .bilinear-of .ensures)
 
 pub read-sample-spec : {M : Type 1} → statement M
 read-sample-spec =

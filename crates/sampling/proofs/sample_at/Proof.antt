@@ -21,7 +21,10 @@ same-length-2 : tie.Need-same-length-2
 same-length-2 c = search needs
 
 returns : tie.Need-returns
-returns c = rw (c .before .before .before .before .before .before .before .source-footprint .ensures) at (c .before .before .before .before .read-sample .ensures)
+returns c =
+    let at-read-sample = c .before .before .before .before in
+    let at-source-footprint = at-read-sample .before .before .before in
+    rw (at-source-footprint .source-footprint .ensures) at (at-read-sample .read-sample .ensures)
 
 pub sample-at-spec : {M : Type 1} → statement M
 sample-at-spec =

@@ -29,7 +29,12 @@ enum-told c = search needs
 
 returns-2 : tie.Need-returns-2
 unfolding lumaAnswer
-returns-2 c = shown _ _ _ _ _ _ _ (c .before .before .before .before .before .before .photograph-number .ensures) (c .before .before .before .before .before .if1 .left) (c .before .before .before .before .footprint-at .ensures) (c .before .before .before .interpolate-at .ensures) (c .before .sampled .given .1)
+returns-2 c =
+    let at-interpolate-at = c .before .before .before in
+    let at-footprint-at = at-interpolate-at .before in
+    let at-if1 = at-footprint-at .before in
+    let at-photograph-number = at-if1 .before in
+    shown _ _ _ _ _ _ _ (at-photograph-number .photograph-number .ensures) (at-if1 .if1 .left) (at-footprint-at .footprint-at .ensures) (at-interpolate-at .interpolate-at .ensures) (c .before .sampled .given .1)
 
 returns-3 : tie.Need-returns-3
 unfolding lumaAnswer

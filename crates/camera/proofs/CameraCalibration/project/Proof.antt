@@ -9,7 +9,9 @@ distort-requires c κs = search needs
 
 returns : tie.Need-returns
 unfolding projected
-returns c = rw (c .before .before .before .before .before .before .distort .ensures, projected)
+returns c =
+    let at-distort = c .before .before .before .before .before .before in
+    rw (at-distort .distort .ensures, projected)
 
 pub project-spec : {M : Type 1} → statement M
 project-spec = tie.close (tie.spec distort-requires returns)

@@ -14,11 +14,18 @@ returns-2 c = rw (agree _ _ (c .before .before .before .if1 .left), differ _ _ (
 
 returns-3 : tie.Need-returns-3
 unfolding sameIntrinsics
-returns-3 c = rw (agree _ _ (c .before .before .before .before .before .before .if1 .left), agree _ _ (c .before .before .before .if2 .left), differ _ _ (c .if3 .taken), sameIntrinsics)
+returns-3 c =
+    let at-if2 = c .before .before .before in
+    let at-if1 = at-if2 .before .before .before in
+    rw (agree _ _ (at-if1 .if1 .left), agree _ _ (at-if2 .if2 .left), differ _ _ (c .if3 .taken), sameIntrinsics)
 
 returns-4 : tie.Need-returns-4
 unfolding sameIntrinsics
-returns-4 c = rw (agree _ _ (c .before .before .before .before .before .before .before .before .if1 .left), agree _ _ (c .before .before .before .before .before .if2 .left), agree _ _ (c .before .before .if3 .left), sameIntrinsics)
+returns-4 c =
+    let at-if3 = c .before .before in
+    let at-if2 = at-if3 .before .before .before in
+    let at-if1 = at-if2 .before .before .before in
+    rw (agree _ _ (at-if1 .if1 .left), agree _ _ (at-if2 .if2 .left), agree _ _ (at-if3 .if3 .left), sameIntrinsics)
 
 pub same-spec : {M : Type 1} → statement M
 same-spec = tie.close (tie.spec returns returns-2 returns-3 returns-4)

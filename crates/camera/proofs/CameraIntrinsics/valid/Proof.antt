@@ -21,7 +21,12 @@ returns-2 c = rw (and-pair _ _ _ (passed (c .before .before .before .both-finite
 
 returns-3 : tie.Need-returns-3
 unfolding validIntrinsics
-returns-3 c = rw (and-pair _ _ _ (passed (c .before .before .before .before .before .before .both-finite .ensures) (c .before .before .before .before .before .if1 .left)) (passed (c .before .before .before .before .both-finite2 .ensures) (c .before .before .before .if2 .left)), c .before .if3 .taken, validIntrinsics)
+returns-3 c =
+    let at-if2 = c .before .before .before in
+    let at-both-finite2 = at-if2 .before in
+    let at-if1 = at-both-finite2 .before in
+    let at-both-finite = at-if1 .before in
+    rw (and-pair _ _ _ (passed (at-both-finite .both-finite .ensures) (at-if1 .if1 .left)) (passed (at-both-finite2 .both-finite2 .ensures) (at-if2 .if2 .left)), c .before .if3 .taken, validIntrinsics)
 
 returns-4 : tie.Need-returns-4
 unfolding validIntrinsics

@@ -34,7 +34,12 @@ returns-3 c = rw (c .enum-told .given .1)
 
 returns-4 : tie.Need-returns-4
 unfolding validLens
-returns-4 c = rw (c .before .before .before .before .before .before .self .given .1, and-pair _ _ _ (passed (c .before .before .before .before .both-finite .ensures) (c .before .before .before .if1 .left)) (passed (c .before .before .both-finite2 .ensures) (c .before .if2 .left))) (c .is-finite .ensures)
+returns-4 c =
+    let at-both-finite2 = c .before .before in
+    let at-if1 = at-both-finite2 .before in
+    let at-both-finite = at-if1 .before in
+    let at-self = at-both-finite .before .before in
+    rw (at-self .self .given .1, and-pair _ _ _ (passed (at-both-finite .both-finite .ensures) (at-if1 .if1 .left)) (passed (at-both-finite2 .both-finite2 .ensures) (c .before .if2 .left))) (c .is-finite .ensures)
 
 pub valid-spec : {M : Type 1} → statement M
 valid-spec =
