@@ -1,4 +1,7 @@
--- sampling.rs: `sample_bilinear`. Where a sample falls is worked out without the photograph, and what it shows from the four pixels there. Definitions only.
+-- sampling.rs, `sample_bilinear` (17 to 47): where a sample falls, worked out without the
+-- photograph, and what it shows from the four pixels there; and sample.rs, `SourceView::sample` (744
+-- to 750), where a sample of a scene falls. Definitions only, to be believed; `Ordered` is internal,
+-- what the functions that mark ask of a footprint.
 use Prim.Native.Nat.{ℕ, _+_, _-_, _≤_, min}
 use mathlib.Core.Bool.{Bool, true, not, _||_}
 use mathlib.Core.List.{List, [], _∷_}
