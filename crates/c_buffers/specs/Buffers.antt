@@ -1,4 +1,5 @@
--- How the calls for C and Rust write values into the buffers that they are lent. A value past the end of a buffer is left out. Definitions only.
+-- How the calls for C and Rust write values into the buffers that they are lent. A value past the end
+-- of a buffer is left out. Definitions only, to be believed.
 use Prim.Native.Nat.{ℕ, _+_}
 use mathlib.Core.List.{List}
 use lib.ListN.{set}

@@ -1,2 +1,2 @@
--- What the contracts of `buffers` cite.
+-- What the contracts of `c_buffers` cite.
 pub mod Buffers

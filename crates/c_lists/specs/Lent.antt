@@ -1,4 +1,5 @@
--- What the calls for C and Rust read of the lists that they are lent. Past the end of a list there is no number: it reads as a NaN. Definitions only.
+-- What the calls for C and Rust read of the lists that they are lent. Past the end of a list there is
+-- no number: it reads as a NaN. Definitions only, to be believed.
 use Prim.Native.Nat.{ℕ, _+_}
 use mathlib.Core.Bool.{Bool}
 use mathlib.Core.List.{List, [], _∷_}

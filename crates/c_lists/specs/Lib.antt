@@ -1,2 +1,2 @@
--- What the contracts of `lent` cite.
+-- What the contracts of `c_lists` cite.
 pub mod Lent

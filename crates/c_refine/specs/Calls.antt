@@ -1,4 +1,5 @@
--- The refinement calls for C and Rust: what they make of what they are lent. Definitions only.
+-- The refinement calls for C and Rust: what they make of what they are lent. Definitions only, to be
+-- believed.
 use Prim.Native.Nat.{ℕ}
 use mathlib.Core.Path.{_≡_}
 use mathlib.Core.Bool.{Bool}

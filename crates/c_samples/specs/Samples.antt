@@ -1,4 +1,5 @@
--- The leaf calls for C and Rust: what they make of what they are lent. Definitions only.
+-- The calls for C and Rust that sample: what they make of what they are lent. Definitions only, to be
+-- believed.
 use Prim.Native.Nat.{ℕ}
 use mathlib.Core.Bool.{Bool}
 use lib.Ieee.{Float}

@@ -1,4 +1,6 @@
--- sampling.rs, `sample_bilinear`, and sample.rs, `SourceView::sample`: where a sample falls, which does not depend on the photograph. Definitions only.
+-- sampling.rs, `sample_bilinear` (17 to 47): where a sample falls, worked out without the photograph;
+-- and sample.rs, `SourceView::sample` (744 to 750), where a sample of a scene falls. Definitions only,
+-- to be believed.
 use Prim.Native.Nat.{ℕ, _+_, _-_, min}
 use mathlib.Core.Bool.{Bool, true, not, _||_}
 use lib.Ieee.{Float}

@@ -1,4 +1,6 @@
--- homography.rs: the map of the unit square to four corners, and the maps that are made of maps, in the Rust's order of operations. Definitions only.
+-- homography.rs: the map of the unit square to four corners (28 to 71), where a map sends a point (91 to
+-- 97), and the maps that are made of maps (112 to 214), in the Rust's order of operations. Definitions
+-- only, to be believed.
 use mathlib.Core.Bool.{_&&_}
 use mathlib.Core.List.{List}
 use lib.Ieee.{Float}

@@ -1,1 +1,2 @@
+-- What the contracts of `homography` cite.
 pub mod Homography

@@ -1,4 +1,6 @@
--- line.rs: the weighted line fit, with the direction of document 01 in place of the Rust's angle, and the crossing of two lines. Definitions only.
+-- line.rs, `fit_line_tls_weighted` (79 to 129): the weighted line fit, with the stand-in for the Rust's
+-- angle; and `intersect_lines` (132 to 145), the crossing of two lines. Definitions only, to be
+-- believed.
 use Prim.Native.Nat.{ℕ}
 use mathlib.Core.Bool.{Bool, not, _&&_}
 use mathlib.Core.List.{List}

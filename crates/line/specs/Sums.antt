@@ -1,4 +1,5 @@
--- What a loop over an index adds up, and whether all of n are so: for every length. Definitions only.
+-- What a loop over an index adds up, and whether all of n are so: for every length. Definitions only,
+-- to be believed.
 use Prim.Native.Nat.{ℕ, zero, suc}
 use mathlib.Core.Bool.{Bool, true, _&&_}
 use mathlib.Core.List.{List}

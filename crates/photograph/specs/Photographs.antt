@@ -1,4 +1,4 @@
--- A photograph: bytes by rows, and which are refused by 1 and 2. Definitions only.
+-- A photograph: bytes by rows, and which are refused by 1 and 2. Definitions only, to be believed.
 use Prim.Native.Nat.{ℕ, _+_, _-_, _*_}
 use mathlib.Core.Bool.{Bool, _&&_}
 use mathlib.Core.List.{List, [], _∷_}

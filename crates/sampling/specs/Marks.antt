@@ -1,4 +1,5 @@
--- The mark sheet and the copy as a sample writes them: a 1 and the photograph's byte at each of its pixels' places. Definitions only.
+-- The mark sheet and the copy as a sample writes them: a 1 and the photograph's byte at each of its
+-- pixels' places. Definitions only, to be believed.
 use Prim.Native.Nat.{ℕ, _+_, _*_}
 use mathlib.Core.Path.{_≡_}
 use mathlib.Core.Bool.{Bool, _&&_}

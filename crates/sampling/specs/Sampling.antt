@@ -1,4 +1,6 @@
--- sampling.rs: `sample_bilinear`. Where a sample falls is worked out without the photograph, and what it shows from the four pixels there. Definitions only.
+-- sampling.rs, `sample_bilinear` (17 to 47): what a sample shows, from the four pixels where it
+-- falls. Definitions only, to be believed; `Ordered` is internal, what the functions that mark ask of
+-- a footprint.
 use Prim.Native.Nat.{ℕ, _≤_}
 use mathlib.Core.Bool.{not}
 use mathlib.Core.List.{List, [], _∷_}

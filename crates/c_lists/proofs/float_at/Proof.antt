@@ -1,14 +1,11 @@
 -- `float_at` meets its contract: past its end a list gives the default, and nothing over nothing is no number. Assumes nothing.
-use mathlib.Core.Path.{_≡_, refl, sym, _∙_}
+use mathlib.Core.Path.{sym, _∙_}
 use lib.ListN.{List·getD-eq-default}
-use lib.Ieee.{nan, binary64, div, ofBits}
+use lib.Ieee.{nan}
 use borrow.Author.Needs.{needs}
+use Rattle.ieee.proofs.Patterns.{zero-by-zero}
 use Rattle.c_lists.proofs.float_at.Statement.{statement}
 use Rattle.c_lists.proofs.float_at.Tie as tie
-
-no-number : div binary64 (ofBits binary64 0) (ofBits binary64 0) ≡ nan
-unfolding div ofBits
-no-number = refl
 
 mul-result : tie.Need-mul-result
 mul-result c = search needs
@@ -20,7 +17,7 @@ returns : tie.Need-returns
 returns c = search needs
 
 returns-2 : tie.Need-returns-2
-returns-2 c = no-number ∙ sym (List·getD-eq-default (c .before .args .s .now) nan (c .if1 .left))
+returns-2 c = zero-by-zero ∙ sym (List·getD-eq-default (c .before .args .s .now) nan (c .if1 .left))
 
 pub float-at-spec : {M : Type 1} → statement M
 float-at-spec = tie.close (tie.spec mul-result shared-slice-read-result returns returns-2)
