@@ -107,13 +107,13 @@ def parsed(path: Path) -> Dict[str, Any]:
         raise Damaged(error.strerror or "the file cannot be opened") from error
     except (ValueError, RecursionError) as error:
         raise Damaged("it is no JSON") from error
-    if not isinstance(record, dict) or not isinstance(record.get("number"), int) or not isinstance(record.get("word"), str):
+    if not isinstance(record, dict) or not isinstance(record.get("number", ""), (int, type(None))) or not isinstance(record.get("word"), str):
         raise Damaged("it has no number and word of a measurement")
     return record
 
 
 def row_of(path: Path, record: Dict[str, Any]) -> Row:
-    """The row of a record whose number and word are there."""
+    """The row of a record whose number and word are there; the number is null where the library was not asked."""
     request, prepare = part_of(record, "request"), part_of(record, "prepare")
     flags = record.get("refined") if isinstance(record.get("refined"), list) else []
     row = Row(path.stem, REFUSED, record["word"], photo=string(record.get("photo")) or path.stem, number=record["number"])

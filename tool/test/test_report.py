@@ -52,6 +52,7 @@ def fixture_folder(tmp_path):
     put(folder, "100% #1?", text="Grube ä", spread_px=0.1, module_px=3.0, px_per_mm=None)
     put(folder, "dark", number=9, word="fewer than two edges of the label were found", corners=None, refined=[False] * 4, spread_px=None,
         repeatable=None, read=120, text=None, px_per_mm=None)
+    (folder / "bare.json").write_text(json.dumps({"number": None, "word": "no QR label was found", "photo": "bare.tif"}))
     (folder / "cut.json").write_text(json.dumps(record("cut"))[:200])
     (folder / "list.json").write_text("[1, 2]")
     (folder / "odd.json").write_text(json.dumps(record("odd", corners="?", files={"blanked": "../odd.png", "overlay": 3}, versions=7, px_per_mm=[1, "x"])))
@@ -99,7 +100,7 @@ def acted(page: Path, script: str) -> Page:
 
 def names(page: Page):
     """The photographs of the rows that are shown, in their order."""
-    return [re.search(r"(\S.*?)\.(jpg|png)|(cut|list)", row["text"]).group(0) for row in page.rows if not row["hidden"]]
+    return [re.search(r"(\S.*?)\.(jpg|png|tif)|(cut|list)", row["text"]).group(0) for row in page.rows if not row["hidden"]]
 
 
 def test_every_record_has_its_row(folder):
@@ -107,7 +108,7 @@ def test_every_record_has_its_row(folder):
     page = Page(path.read_text())
     assert path == folder / "index.html" and not list(folder.glob(".*"))
     states = {name: row["state"] for name, row in zip(names(page), page.rows)}
-    assert states == {"<b>.png": "answered", "100% #1?.jpg": "answered", "cut": "damaged", "dark.jpg": "refused", "find-2.jpg": "doubtful",
+    assert states == {"<b>.png": "answered", "100% #1?.jpg": "answered", "bare.tif": "refused", "cut": "damaged", "dark.jpg": "refused", "find-2.jpg": "doubtful",
                       "find-10.jpg": "answered", "list": "damaged", "odd.jpg": "doubtful"}
     odd = next(row["text"] for row in page.rows if "odd" in row["text"])
     assert "no file of this folder as its copy" in odd and "no file of this folder as its overlay" in odd
@@ -163,7 +164,7 @@ def test_numbers_in_names_are_ordered_as_numbers():
 @in_browser
 def test_the_browser_shows_the_rows_and_the_links_lead_to_files(folder):
     page = Page(browse(write_report(folder), "--dump-dom"))
-    assert len(page.rows) == 8 and not any(row["hidden"] for row in page.rows)
+    assert len(page.rows) == 9 and not any(row["hidden"] for row in page.rows)
     assert "broken" not in " ".join(page.tags)
     script = "Promise.all([...document.images].filter(i => i.src).map(i => i.decode())).then(() => document.body.append('all decoded'))"
     assert "all decoded" in acted(folder / "index.html", script).rows[-1]["text"]
@@ -177,13 +178,13 @@ def test_a_click_sorts_and_a_second_turns_the_order(folder):
     up, down = acted(page, click), acted(page, click * 2)
     assert names(up)[:5] == ["<b>.png", "odd.jpg", "find-10.jpg", "100% #1?.jpg", "find-2.jpg"]
     assert names(down)[:5] == ["find-2.jpg", "100% #1?.jpg", "find-10.jpg", "odd.jpg", "<b>.png"]
-    assert set(names(up)[5:]) == set(names(down)[5:]) == {"cut", "dark.jpg", "list"}
+    assert set(names(up)[5:]) == set(names(down)[5:]) == {"bare.tif", "cut", "dark.jpg", "list"}
 
 
 @in_browser
 def test_the_buttons_and_the_search_choose_rows(folder):
     page = write_report(folder)
-    assert names(acted(page, "document.querySelector('.tools .refused').click()")) == ["dark.jpg"]
+    assert names(acted(page, "document.querySelector('.tools .refused').click()")) == ["bare.tif", "dark.jpg"]
     search = "const s = document.querySelector('#search'); s.value = 'GRUBE'; s.dispatchEvent(new Event('input'));"
     assert names(acted(page, search)) == ["100% #1?.jpg"]
 
