@@ -2,7 +2,7 @@
 import tempfile
 from dataclasses import dataclass
 from pathlib import Path
-from typing import Callable, Dict, Optional
+from typing import Callable, Dict, Optional, Tuple
 
 import cv2
 import numpy as np
@@ -16,11 +16,15 @@ import trufolmesca
 STOP = (cv2.TERM_CRITERIA_EPS + cv2.TERM_CRITERIA_MAX_ITER, 40, 0.001)
 
 
+ALL, FINDERS = (0, 1, 2, 3), (0, 1, 3)
+
+
 @dataclass(frozen=True)
 class Found:
-    """What a method answered: corners or None, and whether it marked them itself as not to be trusted."""
+    """What a method answered: corners or None, whether it marked them itself as not to be trusted, and which of them count."""
     corners: Optional[np.ndarray]
     marked: bool = False
+    counted: Tuple[int, ...] = ALL
 
 
 def decoder(scene: Scene) -> Found:
@@ -49,13 +53,14 @@ def opencv_decoder(scene: Scene) -> Found:
     return Found(corners.reshape(4, 2).astype(float) if found else None)
 
 
-def corner_sub_pix(scene: Scene, start: Optional[np.ndarray]) -> Found:
-    """OpenCV's cornerSubPix, with a window that reaches a module from the rough corner."""
+def corner_sub_pix(scene: Scene, start: Optional[np.ndarray], window: float = 0.5, counted: Tuple[int, ...] = ALL) -> Found:
+    """OpenCV's cornerSubPix, whose window reaches so many modules from the rough corner, and two pixels at least."""
     if start is None:
         return Found(None)
-    reach = max(2, int(round(scene.case.module)))
+    reach = max(2, int(round(window * scene.case.module)))
     places = start.astype(np.float32).reshape(-1, 1, 2)
-    return Found(cv2.cornerSubPix(scene.picture, places, (reach, reach), (-1, -1), STOP).reshape(4, 2).astype(float))
+    corners = cv2.cornerSubPix(scene.picture, places, (reach, reach), (-1, -1), STOP).reshape(4, 2)
+    return Found(corners.astype(float), counted=counted)
 
 
 def library_camera(scene: Scene) -> Optional[trufolmesca.Camera]:
@@ -94,6 +99,7 @@ FROM_DECODER: Dict[str, Callable[[Scene], Found]] = {
     "OpenCV's QRCodeDetector": opencv_decoder,
     "rough corners (zxing-cpp less half a pixel)": rough,
     "cornerSubPix from these": lambda scene: corner_sub_pix(scene, rough(scene).corners),
+    "cornerSubPix, the three finder corners alone": lambda scene: corner_sub_pix(scene, rough(scene).corners, counted=FINDERS),
     "the plain refinement from these": lambda scene: plain(scene, rough(scene).corners),
     "this tool": this_tool,
 }
@@ -104,3 +110,6 @@ FROM_HAND: Dict[str, Callable[[Scene], Found]] = {
     "this tool with --corners": lambda scene: this_tool(scene, scene.given),
 }
 WITHOUT_CAMERA: Dict[str, Callable[[Scene], Found]] = {"this tool without the camera file": lambda scene: this_tool(scene, lens=False)}
+WINDOWS: Dict[str, Callable[[Scene], Found]] = {
+    f"a window of {window} module": lambda scene, window=window: corner_sub_pix(scene, rough(scene).corners, window)
+    for window in (0.35, 0.5, 0.7, 1.0, 1.4)}

@@ -12,7 +12,7 @@ WRONG = 0.5  # pixels: an answer with a corner further off than this is wrong
 
 @dataclass(frozen=True)
 class Result:
-    """What one method came to on one label: the distances of its four corners from the true ones, or None without an answer."""
+    """What one method came to on one label: the distances of its corners from the true ones, or None without an answer."""
     case: Case
     errors: Optional[np.ndarray]
     marked: bool
@@ -28,7 +28,7 @@ Results = Dict[str, List[Result]]
 
 def judged(scene: Scene, found: Found) -> Result:
     """A method's answer, held against the true corners."""
-    errors = None if found.corners is None else np.linalg.norm(found.corners - scene.corners, axis=1)
+    errors = None if found.corners is None else np.linalg.norm(found.corners - scene.corners, axis=1)[list(found.counted)]
     return Result(scene.case, errors, found.marked)
 
 
