@@ -7,25 +7,34 @@ from pathlib import Path
 
 import cv2
 import numpy as np
-import trufolmesca
-from trufolmesca import Answer, Camera, Marked, Number
+from trufolmesca import Answer, Camera, Number, Refused
 
 from tool import Unanswered, label
 from tool.camera import to_rectified
 from tool.label import MOST_DISAGREEING, PATTERN_AGREEMENT
 from tool.photograph import Photograph, read_photograph
 from tool.record import Record, bits_of_corners, camera_as_json
+from tool.refinement import in_photograph, px_per_mm, refine, refine_marking
 
 REPEATED_RUNS = 4
 MOVED_MODULES = 0.15       # how far a repeated run's corners are moved: inside what the refinement bears, and visible
 MOST_SPREAD_PX = 0.1       # above this an answer depends on where it began, so it is marked 'not repeatable'
 SMOOTHING_MODULES = 0.12   # a Gaussian that gave 0.018 to 0.043 pixel where the plain run gave 0.7 to 4.6
+ROUGH_SEED = 20260         # the repeated runs begin at the same places each time
+# The blur of the edges, as label.edge_blur measures it, between which corners come out right; bench/working_range finds
+# it. The refinement's samples are half a module apart: below 0.07 an edge falls between two of them, and the error is
+# 0.06 to 4 pixels; 0.01 is added to be safe. Above 0.2 an edge runs into the next module's: the error grows to a tenth
+# of a module, and repeating the run does not show it.
 TOO_SHARP_MODULES = 0.08
-ROUGH_SEED = 20260           # the repeated runs begin at the same places each time
+TOO_BLURRED_MODULES = 0.20
 
 NOT_REPEATABLE = "Not repeatable: from rough corners moved by {moved} module the answer moves by {spread:.2f} pixel."
 REPEAT_REFUSED = "Not repeatable: from rough corners moved by {moved} module one of the runs is refused."
 PARTLY = "Only {count} of the four corners were refined; the others are as rough as they came."
+SHARP = ("The label is too sharp for its size (its edges are blurred by {blur:.3f} module): the corners can be wrong by pixels. "
+         "Measure with --prepare auto.")
+BLURRED = ("The label is too blurred for its size (its edges by {blur:.2f} module or more): the corners can be wrong by up "
+           "to a tenth of a module, although they repeat.")
 BACKWARDS = ("The corners go round against the clock: they were given in another order than top left, top right, "
              "bottom right, bottom left, or the photograph is mirrored.")
 
@@ -93,14 +102,17 @@ def _measured(photograph: Photograph, request: Request | Unanswered, options: Op
     """The record of one label."""
     if isinstance(request, Unanswered):
         return Record(request.number, str(request), photograph.name, photograph.sha256, warnings=list(photograph.warnings))
-    sigma, sentence = preparation(photograph.grey, request, options.prepare)
-    record = _refined(photograph.grey, request, sigma)
+    try:
+        record = _refined(photograph.grey, request, *preparation(photograph.grey, request, options.prepare))
+    except Refused as refusal:
+        return Record(refusal.number, refusal.word, photograph.name, photograph.sha256, warnings=list(photograph.warnings))
     record.photo, record.photo_sha256 = photograph.name, photograph.sha256
     record.warnings = [*photograph.warnings, *record.warnings]
-    record.prepare = {"sigma_px": sigma, "sentence": " ".join([*photograph.conversions, sentence])}
+    record.prepare["sentence"] = " ".join([*photograph.conversions, record.prepare["sentence"]])
     if options.side_mm is not None:
         record.side_mm = options.side_mm
-        record.px_per_mm = _px_per_mm(record.corners, options.side_mm)
+        if record.corners is not None:
+            record.px_per_mm = px_per_mm(np.array(record.corners), options.side_mm).tolist()
     return record
 
 
@@ -108,10 +120,7 @@ def refine_picture(grey: np.ndarray, rough_corners: np.ndarray, grid: np.ndarray
                    camera: Camera | None = None, sigma: float | str = 0.0) -> Record:
     """One label of a grey picture, refined from rough corners, without any file; sigma as --prepare takes it."""
     request = Request(np.asarray(rough_corners, float).reshape(4, 2), np.asarray(grid, np.uint8), inverted, camera)
-    sigma, sentence = preparation(grey, request, "off" if sigma == 0 else sigma)
-    record = _refined(grey, request, sigma)
-    record.prepare = {"sigma_px": sigma, "sentence": sentence}
-    return record
+    return _refined(grey, request, *preparation(grey, request, "off" if sigma == 0 else sigma))
 
 
 def _given(grey: np.ndarray, options: Options) -> Request:
@@ -189,29 +198,14 @@ def smoothed(grey: np.ndarray, sigma: float) -> np.ndarray:
     return cv2.GaussianBlur(grey, (size, size), sigma)
 
 
-def _call(picture: np.ndarray, request: Request, corners: np.ndarray, marking: bool) -> Answer | Marked:
-    """The refinement call that fits the request."""
-    if request.camera is None:
-        call = trufolmesca.refine_corners_marking if marking else trufolmesca.refine_corners
-        return call(picture, request.grid, corners, inverted=request.inverted)
-    call = trufolmesca.refine_corners_mapped_marking if marking else trufolmesca.refine_corners_mapped
-    return call(picture, request.grid, corners, request.camera, inverted=request.inverted)
-
-
-def in_photograph(camera: Camera | None, corners: np.ndarray) -> np.ndarray:
-    """Where an answer's corners lie in the photograph."""
-    if camera is None:
-        return corners
-    return np.array([trufolmesca.rectified_to_source(camera, x, y) for x, y in corners])
-
-
-def _refined(grey: np.ndarray, request: Request, sigma: float) -> Record:
+def _refined(grey: np.ndarray, request: Request, sigma: float, sentence: str) -> Record:
     """The record of one refinement: answer, spread, warnings, and the pictures."""
     picture, corners = smoothed(grey, sigma), request.corners
-    answer = _call(picture, request, corners, marking=True)
+    answer = refine_marking(picture, request.grid, corners, request.inverted, request.camera)
     record = Record(answer.number, answer.word, "", text=request.text, module_px=request.module_px,
                     rough=request.rough.tolist(), rough_from=request.rough_from,
                     request=_request_as_json(picture, request, corners), answer=_answer_as_json(answer),
+                    prepare={"sigma_px": sigma, "sentence": sentence},
                     read=None if answer.sheet is None else int(answer.sheet.sum()),
                     copy=answer.copy, sheet=answer.sheet, prepared=picture)
     if answer.number != Number.ANSWER:
@@ -220,7 +214,8 @@ def _refined(grey: np.ndarray, request: Request, sigma: float) -> Record:
     record.corners, record.refined = places.tolist(), list(answer.refined)
     record.spread_px, refusals = _spread(picture, request, corners, places)
     record.repeatable = refusals == 0 and record.spread_px <= MOST_SPREAD_PX
-    record.warnings = [*_repeat_warnings(record, refusals), *_shape_warnings(grey, request, answer)]
+    record.warnings = [*_repeat_warnings(record, refusals), *_blur_warnings(picture, request, answer),
+                       *_shape_warnings(grey, request, answer)]
     return record
 
 
@@ -230,7 +225,7 @@ def _spread(picture: np.ndarray, request: Request, corners: np.ndarray, places: 
     moves = np.random.default_rng(ROUGH_SEED).uniform(-reach, reach, (REPEATED_RUNS, 4, 2))
     spread, refusals = 0.0, 0
     for move in moves:
-        again = _call(picture, request, corners + move, marking=False)
+        again = refine(picture, request.grid, corners + move, request.inverted, request.camera)
         if again.number != Number.ANSWER:
             refusals += 1
             continue
@@ -249,6 +244,14 @@ def _repeat_warnings(record: Record, refusals: int) -> list[str]:
     if not all(record.refined):
         warnings.append(PARTLY.format(count=sum(record.refined)))
     return warnings
+
+
+def _blur_warnings(picture: np.ndarray, request: Request, answer: Answer) -> list[str]:
+    """What is to be said where the picture that was refined lies outside of the working range."""
+    blur = label.edge_blur(picture, answer.corners, request.grid, request.camera)
+    if blur < TOO_SHARP_MODULES:
+        return [SHARP.format(blur=blur)]
+    return [BLURRED.format(blur=blur)] if blur > TOO_BLURRED_MODULES else []
 
 
 def _shape_warnings(grey: np.ndarray, request: Request, answer: Answer) -> list[str]:
@@ -280,11 +283,3 @@ def _answer_as_json(answer: Answer) -> dict:
     """An answer as NAME.json has it."""
     return {"corners": answer.corners.tolist(), "corners_bits": bits_of_corners(answer.corners),
             "edges": [asdict(edge) for edge in answer.edges]}
-
-
-def _px_per_mm(corners: list[list[float]] | None, side_mm: float) -> list[float] | None:
-    """Pixels for each millimetre along the top, right, bottom and left side."""
-    if corners is None:
-        return None
-    places = np.array(corners)
-    return (np.linalg.norm(np.roll(places, -1, axis=0) - places, axis=1) / side_mm).tolist()
