@@ -25,6 +25,14 @@ def module_blur(grey: np.ndarray, corners: np.ndarray, grid: np.ndarray, camera:
     return float(BLURS[int(np.argmax(likeness))])
 
 
+def expected_error(blur: float) -> float:
+    """How far a corner is off at this blur, both in modules.
+
+    A rule of thumb of the band in docs/ACCURACY.md: 0.004 at a blur of 0.2, 0.01 at 0.25, 0.02 at 0.3.
+    """
+    return 0.01 * (blur / 0.25) ** 4
+
+
 def drawn_levels(grid: np.ndarray, blur: float) -> np.ndarray:
     """What module_levels would give for the label, drawn and blurred by so many modules."""
     fine = np.kron(np.pad(grid, MARGIN).astype(np.float32), np.ones((FINE, FINE), np.float32))

@@ -10,6 +10,7 @@ import numpy as np
 from trufolmesca import Answer, Camera, Number, Refused
 
 from tool import Unanswered, label
+from tool.blur import expected_error, module_blur
 from tool.camera import to_rectified
 from tool.label import MOST_DISAGREEING, PATTERN_AGREEMENT
 from tool.photograph import Photograph, read_photograph
@@ -35,6 +36,8 @@ SHARP = ("The label is too sharp for its size (its edges are blurred by {blur:.3
          "Measure with --prepare auto.")
 BLURRED = ("The label is too blurred for its size (its edges by {blur:.2f} module or more): the corners can be wrong by up "
            "to a tenth of a module, although they repeat.")
+TOO_BLURRED = ("The label is blurred by {blur:.2f} of its module: at that the corners are off by some {error:.1f} pixel, "
+               "though every run repeats them.")
 BACKWARDS = ("The corners go round against the clock: they were given in another order than top left, top right, "
              "bottom right, bottom left, or the photograph is mirrored.")
 
@@ -252,6 +255,13 @@ def _blur_warnings(picture: np.ndarray, request: Request, answer: Answer) -> lis
     if blur < TOO_SHARP_MODULES:
         return [SHARP.format(blur=blur)]
     return [BLURRED.format(blur=blur)] if blur > TOO_BLURRED_MODULES else []
+
+
+def _blur_warnings(picture: np.ndarray, request: Request, answer: Answer) -> list[str]:
+    """What is to be said where the label is so blurred that its corners move, which no repeated run shows."""
+    blur = module_blur(picture, answer.corners, request.grid, request.camera)
+    error = expected_error(blur) * request.module_px
+    return [TOO_BLURRED.format(blur=blur, error=error)] if error > MOST_SPREAD_PX else []
 
 
 def _shape_warnings(grey: np.ndarray, request: Request, answer: Answer) -> list[str]:

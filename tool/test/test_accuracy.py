@@ -7,9 +7,11 @@ import pytest
 
 sys.path.insert(0, str(Path(__file__).resolve().parents[2] / "bench" / "accuracy"))
 import tool  # noqa: E402,F401  (puts the Python binding on the path)
-from methods import corner_sub_pix, decoder, plain, rough, this_tool  # noqa: E402
+from methods import corner_sub_pix, decoder, library_camera, plain, rough, this_tool  # noqa: E402
 from scenes import Case, cases, scene  # noqa: E402
 from tables import Result, compared, judged, numbers, unmarked  # noqa: E402
+from tool.blur import module_blur  # noqa: E402
+from tool.render import undistorted  # noqa: E402
 
 
 def errors(method, made, *arguments):
@@ -58,3 +60,18 @@ def test_the_bench_has_every_kind_of_label():
     made = list(cases())
     assert {case.dim for case in made} == {21, 25, 33, 45} and {case.side for case in made} == {60, 100, 160, 250, 400, 600}
     assert len({case.seed for case in made}) == len(made) and {case.lens for case in made} == {False, True}
+
+
+@pytest.mark.parametrize("module", [4, 8, 24])
+def test_a_label_too_blurred_is_marked_and_one_in_the_band_is_not(module):
+    for blur, marked in ((0.1, False), (0.15, False), (0.33, True), (0.4, True)):
+        made = scene(Case(21, 21 * module, blur * module, False, 5, tilt=10))
+        assert this_tool(made, made.given).marked == marked, blur
+
+
+def test_the_blur_of_a_label_is_found_in_modules():
+    made = [scene(Case(25, 25 * 10, blur * 10, True, 6)) for blur in (0.1, 0.25, 0.5)]
+    found = [module_blur(one.picture, undistorted(one.camera, one.corners), one.grid, library_camera(one)) for one in made]
+    assert np.abs(np.array(found) - [0.1, 0.25, 0.5]).max() <= 0.026
+    flat = np.full((300, 300), 90, np.uint8)
+    assert np.isnan(module_blur(flat, made[0].corners, made[0].grid, None))
