@@ -11,7 +11,7 @@ from trufolmesca import LibraryMissing
 
 from tool import Unanswered
 from tool.camera import read_camera
-from tool.many import measure_many
+from tool.many import measure_many, write_summary
 from tool.measure import Options
 
 ANSWERED, SOME_REFUSED, BAD_USAGE = 0, 1, 2
@@ -129,7 +129,8 @@ def parser() -> argparse.ArgumentParser:
                                  epilog=VERIFY_STATUS, formatter_class=raw)
     verify.add_argument("directory", type=Path, metavar="DIR", help="where measure wrote")
     report = commands.add_parser("report", help="write one page with all results",
-                                 description="Writes DIR/index.html: one page with all results, which needs no other file.")
+                                 description="Writes DIR/index.html: one page with all results, which needs no other file. "
+                                             "Writes DIR/summary.csv anew too, where several runs have filled DIR.")
     report.add_argument("directory", type=Path, metavar="DIR", help="where measure wrote")
     return words
 
@@ -189,7 +190,8 @@ def _verify(asked: argparse.Namespace) -> int:
 def _report(asked: argparse.Namespace) -> int:
     """The command report."""
     from tool.report import write_report
-    print(write_report(_existing(asked.directory)))
+    write_summary(_existing(asked.directory))
+    print(write_report(asked.directory))
     return ANSWERED
 
 
