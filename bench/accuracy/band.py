@@ -23,7 +23,7 @@ def measured(repeats: int, modules=MODULES, blurs=BLURS, progress=iter) -> Dict[
     """The results of both panels for each size of a module and each blur in modules."""
     cells = {name: {} for name in PANELS}
     for module, blur in progress([(module, blur) for module in modules for blur in blurs]):
-        scenes = [scene(Case(21, 21 * module, blur * module, False, seed, tilt=10.0)) for seed in range(repeats)]
+        scenes = [scene(Case(21, 21 * module, blur * module, False, seed, tilt=5.0)) for seed in range(repeats)]
         for name, method in PANELS.items():
             cells[name][module, blur] = [judged(one, method(one, one.given)) for one in scenes]
     return cells

@@ -11,21 +11,21 @@ DIMS = (21, 25, 33, 45)
 SIDES = (60, 100, 160, 250, 400, 600)
 BLURS = (0.5, 0.8, 1.3)
 LEAST_MODULE = 2.5  # pixels; below it a decoder reads no label
-MOST_TILT = 30.0
-NOISE = 2.0
+MOST_TILT = 30.0  # degrees out of the picture's plane
+NOISES = (1.0, 2.0, 5.0)  # standard deviations in grey levels
 MOVED = 0.25  # modules by which corners given by hand are off, at most, in x and in y
 
 
 @dataclass(frozen=True)
 class Case:
-    """One label to be rendered: modules a side, side and blur in pixels, whether through a lens, and the draw of all else."""
+    """One label to be rendered: modules a side, side and blur in pixels, tilt in degrees, noise in grey levels, and a draw of all else."""
     dim: int
     side: float
     blur: float
     lens: bool
     seed: int
-    tilt: float = MOST_TILT
-    noise: float = NOISE
+    tilt: float = 15.0
+    noise: float = 2.0
 
     @property
     def module(self) -> float:
@@ -45,18 +45,19 @@ class Scene:
 
 
 def cases(repeats: int = 2) -> Iterator[Case]:
-    """All dims, sides, blurs, with and without a lens, each a few times with other angles, tilts and places."""
+    """All dims, sides, blurs, with and without a lens, each a few times with other angles, tilts, noises and places."""
     for number, (dim, side, blur, lens, _) in enumerate(product(DIMS, SIDES, BLURS, (False, True), range(repeats))):
         if side / dim >= LEAST_MODULE:
-            yield Case(dim, side, blur, lens, seed=number)
+            tilt = np.random.default_rng(number).uniform(0, MOST_TILT)
+            yield Case(dim, side, blur, lens, number, round(float(tilt), 1), NOISES[number % len(NOISES)])
 
 
 def scene(case: Case) -> Scene:
     """The case, rendered."""
     chance = np.random.default_rng([case.seed, case.dim])
-    size = (int(2.4 * case.side) + 40, int(2.1 * case.side) + 40)
+    size = (int(2.1 * case.side) + 40, int(2.0 * case.side) + 40)
     centre = np.array(size) / 2 + chance.uniform(-0.5, 0.5, 2) + chance.uniform(-0.04, 0.04, 2) * size
-    corners = quad(centre, case.side, chance.uniform(-25, 25), chance.uniform(0, case.tilt), chance.uniform(0, 360))
+    corners = quad(centre, case.side, chance.uniform(-25, 25), case.tilt, chance.uniform(0, 360))
     camera = Camera.of_size(size) if case.lens else None
     label = Label.of_dim(case.dim, text=f"FIND {case.seed:04d}")
     picture, known, grid = render(label, corners, size, case.blur, case.noise, camera, seed=case.seed)
