@@ -33,10 +33,10 @@ Finds the QR labels of each photograph and refines their corners. Any format tha
 taken: JPEG, TIFF, PNG and others, 8 or 16 bits, colour or grey, turned as EXIF says.
 
 For each label it writes into DIR:
-  NAME.json          corners, request, answer: all that is needed to run it again
-  NAME.blanked.png   the photograph with every pixel painted over that was not read   (publish)
-  NAME.sheet.png     white where a pixel was read                                      (publish)
-  NAME.overlay.png   the label enlarged, with rough and refined corners (shows part of the photograph)
+  NAME.json          corners, request, answer: all to run it again   (publish)
+  NAME.blanked.png   the photograph, painted over where not read     (publish)
+  NAME.sheet.png     white where a pixel was read                    (publish)
+  NAME.overlay.png   the label enlarged, rough and refined corners   (shows part of the photograph)
 and summary.csv, with a row for every NAME.json of DIR. A second label of a photograph is NAME-2.
 
 Places are in pixels, x to the right and y down; the centre of the first pixel is (0, 0). Corners go
@@ -51,7 +51,7 @@ the last bit, the same sheet and the same copy. It needs NAME.json, NAME.blanked
 NAME.sheet.png, and never the photograph.
 """
 
-VERIFY_STATUS = "Exit status: 0 all the same, 1 something differs (it is said in words), 2 the command itself was wrong."
+VERIFY_STATUS = "Exit status: 0 all the same, 1 something differs, in words, 2 the command itself was wrong."
 
 
 class _Parser(argparse.ArgumentParser):
@@ -139,8 +139,8 @@ def _measure_words(measure: argparse.ArgumentParser) -> None:
     """The options of measure."""
     measure.add_argument("photos", nargs="+", type=Path, metavar="PHOTO", help="a photograph")
     measure.add_argument("--out", required=True, type=Path, metavar="DIR", help="where to write; made if it is not there")
-    measure.add_argument("--corners", nargs=8, type=number, metavar="N",
-                         help="rough corners X0 Y0 X1 Y1 X2 Y2 X3 Y3, within a quarter of a module, instead of the decoder's")
+    measure.add_argument("--corners", nargs=8, type=number, metavar=("X0", "Y0", "X1", "Y1", "X2", "Y2", "X3", "Y3"),
+                         help="rough corners, within a quarter of a module, instead of the decoder's")
     measure.add_argument("--grid", type=grid_file, metavar="FILE",
                          help="the label's modules, a row of 0 and 1 for each row, 1 dark; without it they are read off the picture")
     measure.add_argument("--camera", type=Path, metavar="FILE",

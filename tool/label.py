@@ -21,15 +21,7 @@ MOST_DISAGREEING = 0.05  # of a label's modules; a mirrored label differs in mor
 CORRELATION_STEPS = 60
 FITTED_REACH = 1.0       # modules that the fit may move a decoder's corner: more, and it has found something else
 
-SYMMETRIES = {
-    "turned by a quarter": lambda grid: np.rot90(grid, 1),
-    "turned by a half": lambda grid: np.rot90(grid, 2),
-    "turned by three quarters": lambda grid: np.rot90(grid, 3),
-    "mirrored": lambda grid: grid.T,
-    "mirrored and turned by a quarter": lambda grid: np.rot90(grid.T, 1),
-    "mirrored and turned by a half": lambda grid: np.rot90(grid.T, 2),
-    "mirrored and turned by three quarters": lambda grid: np.rot90(grid.T, 3),
-}
+ORDINALS = ("first", "second", "third", "fourth")
 
 
 @dataclass(frozen=True)
@@ -232,9 +224,10 @@ def disagreement(grid: np.ndarray, shown: np.ndarray) -> float:
     return float((grid != shown).mean())
 
 
-def better_symmetry(grid: np.ndarray, shown: np.ndarray) -> str | None:
-    """How the grid has to be turned or mirrored to agree with the picture, if that helps."""
-    for words, turn in SYMMETRIES.items():
-        if disagreement(turn(grid), shown) <= MOST_DISAGREEING:
-            return words
+def better_order(grid: np.ndarray, shown: np.ndarray) -> str | None:
+    """The order of the given corners in which the picture shows the grid, if there is one."""
+    for first in range(4):
+        for step, seen in ((1, np.rot90(shown, first)), (-1, np.rot90(shown, first).T)):
+            if disagreement(grid, seen) <= MOST_DISAGREEING:
+                return ", ".join(ORDINALS[(first + step * index) % 4] for index in range(4))
     return None

@@ -3,7 +3,6 @@ from __future__ import annotations
 
 import csv
 import io
-import json
 import os
 import sys
 from collections.abc import Iterator
@@ -18,6 +17,7 @@ from tqdm import tqdm
 
 from tool.measure import Options, measure
 from tool.pictures import overlay_of, png_of
+from tool.published import Differs, read_fields
 from tool.record import PICTURES, Record, json_bytes, write_whole
 
 WORKER_BYTES = 3 << 29      # what the largest common photographs take, decoded twice in colour
@@ -236,9 +236,9 @@ def write_summary(directory: Path) -> None:
     table.writerow(SUMMARY)
     for path in sorted(directory.glob("*.json")):
         try:
-            table.writerow(_row(path.stem, json.loads(path.read_text())))
-        except (ValueError, KeyError, TypeError, AttributeError, OSError):
-            table.writerow([path.stem, "", "", "", "this file is not a record of this tool, or is damaged"])
+            table.writerow(_row(path.stem, read_fields(path)))
+        except (Differs, KeyError, TypeError, ValueError):
+            table.writerow([path.stem, "", "", "", "this file is damaged, or not a record of this tool"])
     write_whole(directory / "summary.csv", text.getvalue().encode())
 
 

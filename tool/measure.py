@@ -270,8 +270,8 @@ def _shape_warnings(grey: np.ndarray, request: Request, answer: Answer) -> list[
     shown = label.read_grid_of(grey, answer.corners, len(request.grid), request.camera, request.inverted).grid
     differing = label.disagreement(request.grid, shown)
     if differing > MOST_DISAGREEING:
-        turn = label.better_symmetry(request.grid, shown)
-        hint = (f"it agrees where the grid is {turn}, so the corners are in another order" if turn
+        order = label.better_order(request.grid, shown)
+        hint = (f"it agrees with the corners in another order: {order} of those given" if order
                 else "the grid is of another label, or the corners are not the label's")
         warnings.append(f"The grid differs from the picture under the refined corners in {100 * differing:.0f} % "
                         f"of the modules: {hint}.")

@@ -48,6 +48,11 @@ def _is_number(value: object) -> bool:
     return isinstance(value, (int, float)) and not isinstance(value, bool) and abs(value) < float("inf")
 
 
+def _is_whole(value: object) -> bool:
+    """Whether a value is a whole number, or null."""
+    return value is None or (isinstance(value, int) and not isinstance(value, bool))
+
+
 def _is_corners(value: object) -> bool:
     """Whether a value is four pairs of numbers."""
     return (isinstance(value, list) and len(value) == 4
@@ -73,7 +78,7 @@ def _is_grid(value: object) -> bool:
 
 def _is_side(value: object) -> bool:
     """Whether a value is a width or a height that the library takes."""
-    return isinstance(value, int) and not isinstance(value, bool) and 1 <= value <= LARGEST_SIDE
+    return value is not None and _is_whole(value) and 1 <= value <= LARGEST_SIDE
 
 
 def _is_numbers_of(names: tuple[str, ...], value: object) -> bool:
@@ -116,7 +121,7 @@ def _is_files(value: object) -> bool:
 
 
 _SHAPES = {
-    "number": (lambda value: value is None or isinstance(value, int), "a number or null"),
+    "number": (_is_whole, "a whole number or null"),
     "word": (lambda value: isinstance(value, str), "a text"),
     "corners": (lambda value: value is None or _is_corners(value), "four pairs of numbers or null"),
     "refined": (lambda value: value is None or (isinstance(value, list) and len(value) == 4), "four truth values or null"),
@@ -125,7 +130,7 @@ _SHAPES = {
     "rough": (lambda value: value is None or _is_corners(value), "four pairs of numbers or null"),
     "request": (_is_request, "a request that can be run again"),
     "answer": (_is_answer, "an answer"),
-    "read": (lambda value: value is None or isinstance(value, int), "a number or null"),
+    "read": (_is_whole, "a whole number or null"),
     "files": (_is_files, "names of files beside it"),
     "copy_sha256": (lambda value: value is None or isinstance(value, str), "a text or null"),
     "sheet_sha256": (lambda value: value is None or isinstance(value, str), "a text or null"),
