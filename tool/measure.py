@@ -22,22 +22,17 @@ MOVED_MODULES = 0.15       # how far a repeated run's corners are moved: inside 
 MOST_SPREAD_PX = 0.1       # above this an answer depends on where it began, so it is marked 'not repeatable'
 SMOOTHING_MODULES = 0.12   # a Gaussian that gave 0.018 to 0.043 pixel where the plain run gave 0.7 to 4.6
 ROUGH_SEED = 20260         # the repeated runs begin at the same places each time
-# The blur of the edges, as label.edge_blur measures it, between which corners come out right; bench/working_range finds
-# it. The refinement's samples are half a module apart: below 0.07 an edge falls between two of them, and the error is
-# 0.06 to 4 pixels; 0.01 is added to be safe. Above 0.2 an edge runs into the next module's: the error grows to a tenth
-# of a module, and repeating the run does not show it.
+# The refinement's samples are half a module apart. Where label.edge_blur is below 0.07 module an edge falls between two of
+# them, and the error is 0.06 to 4 pixels (bench/accuracy finds it); 0.01 is added to be safe.
 TOO_SHARP_MODULES = 0.08
-TOO_BLURRED_MODULES = 0.20
 
 NOT_REPEATABLE = "Not repeatable: from rough corners moved by {moved} module the answer moves by {spread:.2f} pixel."
 REPEAT_REFUSED = "Not repeatable: from rough corners moved by {moved} module one of the runs is refused."
 PARTLY = "Only {count} of the four corners were refined; the others are as rough as they came."
 SHARP = ("The label is too sharp for its size (its edges are blurred by {blur:.3f} module): the corners can be wrong by pixels. "
          "Measure with --prepare auto.")
-BLURRED = ("The label is too blurred for its size (its edges by {blur:.2f} module or more): the corners can be wrong by up "
-           "to a tenth of a module, although they repeat.")
-TOO_BLURRED = ("The label is blurred by {blur:.2f} of its module: at that the corners are off by some {error:.1f} pixel, "
-               "though every run repeats them.")
+BLURRED = ("The label is too blurred for its size (by {blur:.2f} module): the corners are off by some {error:.1f} pixel, "
+           "although they repeat.")
 BACKWARDS = ("The corners go round against the clock: they were given in another order than top left, top right, "
              "bottom right, bottom left, or the photograph is mirrored.")
 
@@ -250,18 +245,13 @@ def _repeat_warnings(record: Record, refusals: int) -> list[str]:
 
 
 def _blur_warnings(picture: np.ndarray, request: Request, answer: Answer) -> list[str]:
-    """What is to be said where the picture that was refined lies outside of the working range."""
-    blur = label.edge_blur(picture, answer.corners, request.grid, request.camera)
-    if blur < TOO_SHARP_MODULES:
-        return [SHARP.format(blur=blur)]
-    return [BLURRED.format(blur=blur)] if blur > TOO_BLURRED_MODULES else []
-
-
-def _blur_warnings(picture: np.ndarray, request: Request, answer: Answer) -> list[str]:
-    """What is to be said where the label is so blurred that its corners move, which no repeated run shows."""
+    """What is to be said where the label is too sharp, or so blurred that its corners move, which no repeated run shows."""
+    sharpness = label.edge_blur(picture, answer.corners, request.grid, request.camera)
+    if sharpness < TOO_SHARP_MODULES:
+        return [SHARP.format(blur=sharpness)]
     blur = module_blur(picture, answer.corners, request.grid, request.camera)
     error = expected_error(blur) * request.module_px
-    return [TOO_BLURRED.format(blur=blur, error=error)] if error > MOST_SPREAD_PX else []
+    return [BLURRED.format(blur=blur, error=error)] if error > MOST_SPREAD_PX else []
 
 
 def _shape_warnings(grey: np.ndarray, request: Request, answer: Answer) -> list[str]:
