@@ -85,7 +85,9 @@ def drawn(directory: Path, rows: List[Row]) -> str:
     world.filters["thousands"] = lambda number: f"{number:,}"
     counts = {state: sum(row.state == state for row in rows) for state in (ANSWERED, DOUBTFUL, REFUSED, DAMAGED)}
     others = [Link(name, address(name)) for name in ("summary.csv",) if (directory / name).is_file()]
-    return world.from_string(TEMPLATE.read_text("utf-8")).render(title=directory.resolve().name, rows=rows, counts=counts, others=others)
+    worst = max((row.spread for row in rows if row.state != REFUSED and row.spread is not None), default=None)
+    page = world.from_string(TEMPLATE.read_text("utf-8"))
+    return page.render(title=directory.resolve().name, rows=rows, counts=counts, others=others, worst=worst)
 
 
 def read_row(path: Path) -> Row:
