@@ -2,9 +2,13 @@
 from __future__ import annotations
 
 import csv
+import fcntl
+import glob
 import io
 import os
+import signal
 import sys
+from collections import deque
 from collections.abc import Iterator
 from concurrent.futures import FIRST_COMPLETED, Future, ProcessPoolExecutor, wait
 from concurrent.futures.process import BrokenProcessPool
@@ -16,6 +20,7 @@ import cv2
 from tqdm import tqdm
 
 from tool.measure import Options, measure
+from tool.photograph import sha256_of_file
 from tool.pictures import overlay_of, png_of
 from tool.published import Differs, read_fields
 from tool.record import PICTURES, Record, json_bytes, write_whole
@@ -45,17 +50,36 @@ class Task:
     options: Options
 
 
-def names_for(photos: list[Path]) -> list[str]:
-    """A name for each photograph's outputs: its stem, with a number behind it where two have the same."""
+def names_for(photos: list[Path], directory: Path) -> list[str]:
+    """A name for each photograph's outputs: its stem, with a number behind it where that is another photograph's."""
     names: list[str] = []
     stems = {photo.stem for photo in photos}
     for photo in photos:
         name, count = photo.stem, 1
-        while name in names or (count > 1 and name in stems):
+        while name in names or (count > 1 and name in stems) or _is_anothers(directory, name, photo):
             count += 1
             name = f"{photo.stem}_{count}"
         names.append(name)
     return names
+
+
+def _is_anothers(directory: Path, name: str, photo: Path) -> bool:
+    """Whether the directory has, under this name, the record of a file with other contents, which must not be lost."""
+    published = _published_sha256(directory / f"{name}.json")
+    if published is None:
+        return False
+    try:
+        return published != sha256_of_file(photo)
+    except OSError:
+        return True
+
+
+def _published_sha256(path: Path) -> str | None:
+    """The hash of the photograph that a record is of; None where there is no such record."""
+    try:
+        return read_fields(path)["photo_sha256"]
+    except (Differs, KeyError):
+        return None
 
 
 def default_jobs(photos: int) -> int:
@@ -77,7 +101,7 @@ def _memory_available() -> int:
 
 def measure_many(photos: list[Path], directory: Path, options: Options, jobs: int | None) -> bool:
     """Measures photographs, writes their outputs and summary.csv, and says whether all were answered."""
-    names = names_for(photos)
+    names = names_for(photos, directory)
     taken = frozenset(names)
     tasks = [Task(photo, name, taken, directory, options) for photo, name in zip(photos, names)]
     answered = True
@@ -117,36 +141,38 @@ class _Progress:
 def _outcomes(tasks: list[Task], jobs: int) -> Iterator[Outcome]:
     """What becomes of each task, in the order in which they end."""
     if jobs == 1 or len(tasks) == 1:
-        for task in tasks:
-            yield measured_and_written(task)
+        yield from map(measured_and_written, tasks)
         return
-    lost: list[Task] = []
-    yield from _in_pool(tasks, jobs, lost)
-    for task in lost:
-        yield from _alone(task)
+    waiting = deque(tasks)
+    while waiting:
+        suspects: list[Task] = []
+        yield from _in_pool(waiting, jobs, suspects)
+        for task in suspects:
+            yield from _alone(task)
 
 
-def _in_pool(tasks: list[Task], jobs: int, lost: list[Task]) -> Iterator[Outcome]:
-    """Runs tasks in worker processes, two for each at hand, and collects those that a dead worker took along."""
-    waiting = iter(tasks)
+def _in_pool(waiting: deque[Task], jobs: int, suspects: list[Task]) -> Iterator[Outcome]:
+    """Runs tasks in worker processes, with one more at hand for each, until none is left or a worker dies.
+
+    A dead worker takes all tasks at hand along, and one of them is why: these are the suspects.
+    """
     running: dict[Future, Task] = {}
     with _pool(jobs) as pool:
         try:
-            while True:
-                for task in waiting:
+            while waiting or running:
+                while waiting and len(running) < 2 * jobs:
+                    task = waiting.popleft()
                     running[pool.submit(measured_and_written, task)] = task
-                    if len(running) >= 2 * jobs:
-                        break
-                if not running:
-                    return
                 done, _ = wait(running, return_when=FIRST_COMPLETED)
                 for future in done:
                     outcome = future.result()
                     del running[future]
                     yield outcome
         except BrokenProcessPool:
-            lost += [task for task in running.values()]
-            lost += list(waiting)
+            suspects += running.values()
+        except (KeyboardInterrupt, GeneratorExit):
+            pool.shutdown(cancel_futures=True)
+            raise
 
 
 def _alone(task: Task) -> Iterator[Outcome]:
@@ -159,8 +185,14 @@ def _alone(task: Task) -> Iterator[Outcome]:
 
 
 def _pool(jobs: int) -> ProcessPoolExecutor:
-    """Worker processes that start fresh, each with one thread of OpenCV."""
-    return ProcessPoolExecutor(jobs, mp_context=get_context("forkserver"), initializer=cv2.setNumThreads, initargs=(1,))
+    """Worker processes that start fresh and know nothing of each other."""
+    return ProcessPoolExecutor(jobs, mp_context=get_context("forkserver"), initializer=_start_worker)
+
+
+def _start_worker() -> None:
+    """Leaves Ctrl-C to the parent, which lets a worker finish its photograph, and keeps OpenCV to one processor."""
+    signal.signal(signal.SIGINT, signal.SIG_IGN)
+    cv2.setNumThreads(1)
 
 
 def measured_and_written(task: Task) -> Outcome:
@@ -170,6 +202,7 @@ def measured_and_written(task: Task) -> Outcome:
         names = list(_label_names(task, len(records)))
         for name, record in zip(names, records):
             write_outputs(task.directory, name, record)
+        _remove_earlier(task, names, records[0].photo_sha256)
     except MemoryError:
         return _given_up(task, "the memory does not suffice for this picture")
     except OSError as error:
@@ -197,9 +230,19 @@ def _label_names(task: Task, count: int) -> Iterator[str]:
     while given < count:
         name = f"{task.name}-{number}"
         number += 1
-        if name not in task.taken:
+        if name not in task.taken and not _is_anothers(task.directory, name, task.photo):
             given += 1
             yield name
+
+
+def _remove_earlier(task: Task, names: list[str], sha256: str | None) -> None:
+    """Removes what an earlier run over the same file wrote of labels that this run did not find."""
+    for path in task.directory.glob(f"{glob.escape(task.name)}-*.json"):
+        number = path.stem[len(task.name) + 1:]
+        if number.isdigit() and path.stem not in names and sha256 is not None and _published_sha256(path) == sha256:
+            for kind in PICTURES:
+                (task.directory / f"{path.stem}.{kind}.png").unlink(missing_ok=True)
+            path.unlink()
 
 
 def write_outputs(directory: Path, name: str, record: Record) -> None:
@@ -230,7 +273,17 @@ def line_of(photo: Path, record: Record) -> str:
 
 
 def write_summary(directory: Path) -> None:
-    """Writes summary.csv from every record of the directory, so that runs can share one."""
+    """Writes summary.csv from every record of the directory; runs that share one wait for each other here."""
+    lock = os.open(directory, os.O_RDONLY)
+    try:
+        fcntl.flock(lock, fcntl.LOCK_EX)
+        write_whole(directory / "summary.csv", _summary(directory).encode())
+    finally:
+        os.close(lock)
+
+
+def _summary(directory: Path) -> str:
+    """The text of summary.csv."""
     text = io.StringIO()
     table = csv.writer(text, lineterminator="\n")
     table.writerow(SUMMARY)
@@ -239,7 +292,7 @@ def write_summary(directory: Path) -> None:
             table.writerow(_row(path.stem, read_fields(path)))
         except (Differs, KeyError, TypeError, ValueError):
             table.writerow([path.stem, "", "", "", "this file is damaged, or not a record of this tool"])
-    write_whole(directory / "summary.csv", text.getvalue().encode())
+    return text.getvalue()
 
 
 def _row(name: str, record: dict) -> list:

@@ -110,6 +110,26 @@ def test_photographs_with_the_same_stem_have_names_of_their_own(archive):
     assert texts == {"find": "UPPER", "find-3": "LOWER", "find_3": "OTHER", "find-2": "THIRD", "find_2": "FOURTH"}
 
 
+def test_a_record_of_another_photograph_is_not_lost(measured):
+    first = measured.record("find")
+    assert measured.measure(measured.add("other/find.jpg", a_photograph("OTHER").picture)) == 0
+    assert measured.record("find") == first and measured.record("find_2")["text"] == "OTHER"
+    assert measured.measure(measured.home / "other/find.jpg", measured.home / "gone/find.png") == 1
+    assert measured.record("find") == first and measured.record("find_2")["text"] == "OTHER"
+    assert measured.record("find_3")["word"].startswith("the file cannot be read")
+
+
+def test_labels_that_an_earlier_run_found_are_removed(archive):
+    path = archive.add("find.png", two_labels()[0])
+    archive.measure(path)
+    other = archive.add("find-7.png", a_photograph("SEVEN").picture)
+    archive.measure(other)
+    assert (archive.out / "find-2.json").exists()
+    assert archive.measure(path, "--corners", *words(two_labels()[1])) == 0
+    assert sorted(path.name for path in archive.out.glob("*.json")) == ["find-7.json", "find.json"]
+    assert not list(archive.out.glob("find-2*"))
+
+
 def test_a_label_light_on_dark_is_found_out(archive):
     made = a_photograph(inverted=True)
     record, = measure(archive.add("find.png", made.picture))
@@ -289,7 +309,7 @@ def test_a_label_in_uneven_light_is_read(archive):
 
 def test_work_in_parallel_gives_the_same_records(archive):
     photos = [archive.add(f"find{index}.png", a_photograph(f"FIND {index}").picture) for index in range(5)]
-    photos.append(archive.add("damaged.jpg", encoded(a_photograph().picture, ".jpg")[:300]))
+    photos.append(archive.add("damaged [1]*.jpg", encoded(a_photograph().picture, ".jpg")[:300]))
     assert archive.measure(*photos, "--jobs", 2) == 1
     lines = archive.said.splitlines()
     assert len(lines) == 6 and all(f"[{number}/6]" in archive.said for number in range(1, 7))
