@@ -9,7 +9,7 @@ import cv2
 import numpy as np
 from trufolmesca import Answer, Camera, Number, Refused
 
-from tool import Unanswered, label
+from tool import Unanswered, label, printable
 from tool.blur import expected_error, module_blur
 from tool.camera import to_rectified
 from tool.label import MOST_DISAGREEING, PATTERN_AGREEMENT
@@ -69,8 +69,7 @@ class Request:
     @property
     def module_px(self) -> float:
         """The side of a module of the rough label, along its shortest edge."""
-        edges = np.linalg.norm(self.rough - np.roll(self.rough, 1, axis=0), axis=1)
-        return float(edges.min()) / len(self.grid)
+        return label.module_side(self.rough, len(self.grid))
 
 
 def measure(photo_path: Path | str, options: Options = Options()) -> list[Record]:
@@ -79,12 +78,12 @@ def measure(photo_path: Path | str, options: Options = Options()) -> list[Record
     try:
         photograph = read_photograph(path)
     except Unanswered as why:
-        return [Record(why.number, str(why), path.name)]
+        return [Record(why.number, str(why), printable(path.name))]
     try:
         _check_camera_size(photograph, options)
         requests = [_given(photograph.grey, options)] if options.corners is not None else _decoded(photograph.grey, options)
     except Unanswered as why:
-        return [Record(why.number, str(why), path.name, photograph.sha256, warnings=list(photograph.warnings))]
+        return [Record(why.number, str(why), photograph.name, photograph.sha256, warnings=list(photograph.warnings))]
     return [_measured(photograph, request, options) for request in requests]
 
 
@@ -126,7 +125,7 @@ def _given(grey: np.ndarray, options: Options) -> Request:
     if options.grid is not None:
         return Request(options.corners, options.grid, options.inverted, options.camera, text=label.text_of(options.grid))
     corners = to_rectified(options.camera, options.corners)
-    for inverted in (options.inverted, True):
+    for inverted in (True,) if options.inverted else (False, True):
         reading = label.read_grid(grey, corners, options.camera, inverted)
         if reading.agreement >= PATTERN_AGREEMENT:
             return Request(options.corners, reading.grid, inverted, options.camera, text=label.text_of(reading.grid))
@@ -219,7 +218,7 @@ def _refined(grey: np.ndarray, request: Request, sigma: float, sentence: str) ->
 
 def _spread(picture: np.ndarray, request: Request, corners: np.ndarray, places: np.ndarray) -> tuple[float, int]:
     """How far the corners of repeated runs lie from the answer's, at most, and how many runs were refused."""
-    reach = MOVED_MODULES * request.module_px
+    reach = MOVED_MODULES * label.module_side(corners, len(request.grid))
     moves = np.random.default_rng(ROUGH_SEED).uniform(-reach, reach, (REPEATED_RUNS, 4, 2))
     spread, refusals = 0.0, 0
     for move in moves:

@@ -12,7 +12,7 @@ import cv2
 import numpy as np
 from trufolmesca import Camera, Intrinsics, Lens
 
-from tool import LARGEST_SIDE
+from tool import LARGEST_SIDE, reason
 from tool.record import PICTURES
 
 PNG_SIGNATURE = b"\x89PNG\r\n\x1a\n"
@@ -32,7 +32,7 @@ def read_fields(path: Path) -> dict[str, Any]:
     try:
         fields = json.loads(path.read_bytes())
     except OSError as error:
-        raise Differs(f"the file cannot be read: {(error.strerror or str(error)).lower()}") from None
+        raise Differs(f"the file cannot be read: {reason(error)}") from None
     except (ValueError, RecursionError):
         raise Differs("the file is damaged: it is not JSON") from None
     if not isinstance(fields, dict):
