@@ -191,12 +191,20 @@ def attach(row: Row, directory: Path, files: Dict[str, Any]) -> None:
             continue
         if not isinstance(name, str) or name in ("", ".", "..") or "/" in name or "\0" in name:
             row.warnings.append(f"The record names no file of this folder as its {word}.")
-        elif not (directory / name).is_file():
+        elif not is_there(directory / name):
             row.warnings.append(f"The {word} {name} is missing in this folder.")
         else:
             row.links.append(Link(word, address(name)))
             if key == "overlay":
                 row.overlay, row.picture = address(name), thumbnail(directory / name)
+
+
+def is_there(path: Path) -> bool:
+    """Whether there is such a file, whatever its name."""
+    try:
+        return path.is_file()
+    except (OSError, ValueError):
+        return False
 
 
 def thumbnail(path: Path) -> Optional[str]:
@@ -250,7 +258,10 @@ def finite(value: Any) -> Optional[float]:
     """A finite number, or None where the value is none."""
     if isinstance(value, bool) or not isinstance(value, (int, float)):
         return None
-    return value if math.isfinite(value) else None
+    try:
+        return value if math.isfinite(float(value)) else None
+    except OverflowError:
+        return None
 
 
 def mean(values: Any) -> Optional[float]:

@@ -1,6 +1,7 @@
 """The report, read and looked at in a real browser."""
 import html.parser
 import json
+import os
 import re
 import shutil
 import subprocess
@@ -155,6 +156,16 @@ def test_numbers_that_are_none_are_left_out(tmp_path):
     put(tmp_path, "a", spread_px=float("nan"), module_px="4", read=True, px_per_mm=[float("inf")] * 4, warnings="?", refined=3, text=["x"])
     page = Page(write_report(tmp_path).read_text())
     assert page.rows[0]["state"] == "doubtful" and "nan" not in page.rows[0]["text"] and "inf" not in page.rows[0]["text"]
+
+
+def test_names_and_numbers_beyond_all_bounds(tmp_path):
+    put(tmp_path, "a", spread_px=10 ** 400, read=-1, text="\ud800", photo="\udcff.png",
+        files=dict(blanked="n" * 5000, sheet="\ud800.png", overlay="a\0b"), request=dict(width=0, height=0, grid=[[]]))
+    strange = os.fsdecode(b"caf\xe9.json")
+    (tmp_path / strange).write_text(json.dumps(record("x", files=None)))
+    page = write_report(tmp_path)
+    assert "./caf%E9.json" in Page(page.read_text()).links
+    assert page.read_text().count("is missing") == 2
 
 
 def test_numbers_in_names_are_ordered_as_numbers():
