@@ -68,7 +68,7 @@ class Row:
 def write_report(directory: Path) -> Path:
     """Writes the folder's index.html and returns its path."""
     directory = Path(directory)
-    rows = [read_row(path) for path in sorted(directory.glob("*.json"), key=lambda path: natural(path.name))]
+    rows = [read_row(path) for path in sorted(directory.glob("*.json"), key=lambda path: natural(path.stem))]
     page = directory / PAGE
     unfinished = directory / f".{PAGE}.{os.getpid()}"
     try:

@@ -158,6 +158,12 @@ def test_numbers_that_are_none_are_left_out(tmp_path):
     assert page.rows[0]["state"] == "doubtful" and "nan" not in page.rows[0]["text"] and "inf" not in page.rows[0]["text"]
 
 
+def test_the_second_label_of_a_photograph_comes_behind_the_first(tmp_path):
+    put(tmp_path, "two-2", photo="two.png", text="FIND B")
+    put(tmp_path, "two", photo="two.png", text="FIND A")
+    assert ["FIND A" in row["text"] for row in Page(write_report(tmp_path).read_text()).rows] == [True, False]
+
+
 def test_names_and_numbers_beyond_all_bounds(tmp_path):
     put(tmp_path, "a", spread_px=10 ** 400, read=-1, text="\ud800", photo="\udcff.png",
         files=dict(blanked="n" * 5000, sheet="\ud800.png", overlay="a\0b"), request=dict(width=0, height=0, grid=[[]]))
