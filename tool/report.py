@@ -109,7 +109,9 @@ def parsed(path: Path) -> Dict[str, Any]:
         raise Damaged(error.strerror or "the file cannot be opened") from error
     except (ValueError, RecursionError) as error:
         raise Damaged("it is no JSON") from error
-    if not isinstance(record, dict) or not isinstance(record.get("number", ""), (int, type(None))) or not isinstance(record.get("word"), str):
+    if not isinstance(record, dict):
+        raise Damaged("it is no record")
+    if not isinstance(record.get("number", ""), (int, type(None))) or not isinstance(record.get("word"), str):
         raise Damaged("it has no number and word of a measurement")
     return record
 
@@ -148,7 +150,8 @@ def corners_of(record: Dict[str, Any], flags: List[Any]) -> List[Dict[str, Any]]
     pairs = [[finite(value) for value in listed(pair)] for pair in listed(record.get("corners"))]
     if len(pairs) != 4 or any(len(pair) != 2 or None in pair for pair in pairs):
         return []
-    return [dict(name=name, x=x, y=y, refined=i < len(flags) and flags[i] is True) for i, (name, (x, y)) in enumerate(zip(CORNERS, pairs))]
+    known = [flag is True for flag in flags] + [False] * 4
+    return [dict(name=name, x=x, y=y, refined=refined) for name, (x, y), refined in zip(CORNERS, pairs, known)]
 
 
 def edges_of(record: Dict[str, Any]) -> List[Dict[str, Any]]:
@@ -157,8 +160,8 @@ def edges_of(record: Dict[str, Any]) -> List[Dict[str, Any]]:
     if record["number"] != 0 or len(edges) != 4 or not all(isinstance(edge, dict) for edge in edges):
         return []
     scales = listed(record.get("px_per_mm")) + [None] * 4
-    return [dict({key: edge.get(key, "?") for key in ("probed", "fit", "dropped")}, name=name, valid=bool(edge.get("valid")), scale=finite(scale))
-            for name, edge, scale in zip(SIDES, edges, scales)]
+    return [dict(name=name, probed=edge.get("probed", "?"), fit=edge.get("fit", "?"), dropped=edge.get("dropped", "?"),
+                 valid=bool(edge.get("valid")), scale=finite(scale)) for name, edge, scale in zip(SIDES, edges, scales)]
 
 
 def read_of(record: Dict[str, Any], request: Dict[str, Any]) -> Tuple[Optional[int], Optional[float]]:
@@ -172,9 +175,10 @@ def read_of(record: Dict[str, Any], request: Dict[str, Any]) -> Tuple[Optional[i
 def facts_of(record: Dict[str, Any], request: Dict[str, Any]) -> List[Tuple[str, str]]:
     """What else a reader may want to know of a record, as pairs of word and value."""
     grid = listed(request.get("grid"))
+    polarity = "light on dark" if request.get("inverted") else "dark on light"
     versions = ", ".join(f"{name} {str(value)[:16]}" for name, value in part_of(record, "versions").items())
     facts = [("photograph", f"{request.get('width')} by {request.get('height')} pixels" if request else None),
-             ("label", f"{len(grid)} by {len(grid)} modules, {'light on dark' if request.get('inverted') else 'dark on light'}" if grid else None),
+             ("label", f"{len(grid)} by {len(grid)} modules, {polarity}" if grid else None),
              ("rough corners", {"decoder": "found by the decoder", "given": "given by hand"}.get(str(record.get("rough_from")))),
              ("camera", "through a camera file" if request.get("camera") else None),
              ("photograph's SHA-256", string(record.get("photo_sha256"))),

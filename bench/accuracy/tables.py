@@ -33,7 +33,7 @@ def judged(scene: Scene, found: Found) -> Result:
 
 
 def numbers(results: Iterable[Result]) -> Dict[str, float]:
-    """RMS, median, 95 % and the largest of the corners' errors in pixels, and how many labels were not answered, wrong, and wrong without a mark."""
+    """Of the corners' errors RMS, median, 95 % and the largest; of the labels how many are unanswered, marked and wrong."""
     results = list(results)
     errors = np.concatenate([result.errors for result in results if result.errors is not None] or [np.zeros(0)])
     spread = dict.fromkeys(("rms", "median", "most", "largest"), float("nan"))
@@ -69,9 +69,10 @@ def compared(results: Results, tool: str) -> str:
         named.append((f"{tool}, answers without a warning", unmarked(results[tool])))
     for name, found in named:
         n = numbers(found)
-        rows.append([name, str(n["labels"]), str(n["silent"]), number(n["rms"]), number(n["median"]), number(n["most"]), number(n["largest"]), str(n["wrong"]),
-                     str(n["unmarked"])])
-    return table(["Method", "Labels", "No answer", "RMS, px", "Median, px", "95 %, px", "Largest, px", "Wrong", "of these without a warning"], rows)
+        errors = [number(n[key]) for key in ("rms", "median", "most", "largest")]
+        rows.append([name, str(n["labels"]), str(n["silent"]), *errors, str(n["wrong"]), str(n["unmarked"])])
+    head = ["Method", "Labels", "No answer", "RMS, px", "Median, px", "95 %, px", "Largest, px", "Wrong", "of these without a warning"]
+    return table(head, rows)
 
 
 def split(results: Results, names: List[str], word: str, key: Callable[[Case], float]) -> str:
