@@ -4,6 +4,7 @@ from __future__ import annotations
 import json
 import struct
 import zlib
+from collections.abc import Callable
 from pathlib import Path
 from typing import Any
 
@@ -12,11 +13,13 @@ import numpy as np
 from trufolmesca import Camera, Intrinsics, Lens
 
 from tool import LARGEST_SIDE
+from tool.record import PICTURES
 
 PNG_SIGNATURE = b"\x89PNG\r\n\x1a\n"
 PICTURE_CHUNKS = {b"IHDR", b"IDAT", b"IEND"}
 OTHER_FORMATS = {b"\xff\xd8\xff": "JPEG", b"II*\0": "TIFF", b"MM\0*": "TIFF", b"GIF8": "GIF", b"RIFF": "WebP", b"BM": "BMP"}
 GREY_OF_8_BITS = (8, 0)
+LARGEST_NUMBER = 1e300
 COLOUR_TYPES = {0: "grey", 2: "colour", 3: "palette", 4: "grey with transparency", 6: "colour with transparency"}
 
 
@@ -44,8 +47,8 @@ def read_fields(path: Path) -> dict[str, Any]:
 
 
 def _is_number(value: object) -> bool:
-    """Whether a value is a finite number and not a truth value."""
-    return isinstance(value, (int, float)) and not isinstance(value, bool) and abs(value) < float("inf")
+    """Whether a value is a number that a double holds, and not a truth value."""
+    return isinstance(value, (int, float)) and not isinstance(value, bool) and abs(value) <= LARGEST_NUMBER
 
 
 def _is_whole(value: object) -> bool:
@@ -102,6 +105,7 @@ def _is_request(value: object) -> bool:
     """Whether a value is a request that can be run, or null."""
     return value is None or (
         isinstance(value, dict) and _is_side(value.get("width")) and _is_side(value.get("height"))
+        and value.get("stride") == value["width"]
         and value.get("scale") == [1, 1] and _is_corners(value.get("corners")) and _is_bits(value.get("corners_bits"))
         and _is_grid(value.get("grid")) and isinstance(value.get("inverted"), bool) and "camera" in value
         and _is_camera(value["camera"]))
@@ -117,23 +121,54 @@ def _is_answer(value: object) -> bool:
 def _is_files(value: object) -> bool:
     """Whether a value names the pictures, without a way out of the directory, or null."""
     return value is None or (isinstance(value, dict) and all(
-        isinstance(value.get(kind), str) and Path(value[kind]).name == value[kind] for kind in ("blanked", "sheet")))
+        isinstance(value.get(kind), str) and Path(value[kind]).name == value[kind] for kind in PICTURES))
+
+
+def _or_null(fits: Callable[[object], bool]) -> Callable[[object], bool]:
+    """The test that also takes null."""
+    return lambda value: value is None or fits(value)
+
+
+def _is_text(value: object) -> bool:
+    """Whether a value is a text."""
+    return isinstance(value, str)
+
+
+def _is_flag(value: object) -> bool:
+    """Whether a value is true or false."""
+    return isinstance(value, bool)
+
+
+def _is_four(fits: Callable[[object], bool]) -> Callable[[object], bool]:
+    """The test for a list of four of these."""
+    return lambda value: isinstance(value, list) and len(value) == 4 and all(map(fits, value))
 
 
 _SHAPES = {
     "number": (_is_whole, "a whole number or null"),
-    "word": (lambda value: isinstance(value, str), "a text"),
-    "corners": (lambda value: value is None or _is_corners(value), "four pairs of numbers or null"),
-    "refined": (lambda value: value is None or (isinstance(value, list) and len(value) == 4), "four truth values or null"),
-    "px_per_mm": (lambda value: value is None or (isinstance(value, list) and all(map(_is_number, value))), "four numbers or null"),
-    "side_mm": (lambda value: value is None or _is_number(value), "a number or null"),
-    "rough": (lambda value: value is None or _is_corners(value), "four pairs of numbers or null"),
+    "word": (_is_text, "a text"),
+    "corners": (_or_null(_is_corners), "four pairs of numbers or null"),
+    "refined": (_or_null(_is_four(_is_flag)), "four times true or false, or null"),
+    "spread_px": (_or_null(_is_number), "a number or null"),
+    "repeatable": (_or_null(_is_flag), "true, false or null"),
+    "warnings": (lambda value: isinstance(value, list) and all(map(_is_text, value)), "a list of texts"),
+    "photo": (_is_text, "a text"),
+    "photo_sha256": (_or_null(_is_text), "a text or null"),
+    "text": (_or_null(_is_text), "a text or null"),
+    "side_mm": (_or_null(_is_number), "a number or null"),
+    "px_per_mm": (_or_null(_is_four(_is_number)), "four numbers or null"),
+    "module_px": (_or_null(_is_number), "a number or null"),
+    "rough": (_or_null(_is_corners), "four pairs of numbers or null"),
+    "rough_from": (lambda value: value in (None, "decoder", "given"), "'decoder', 'given' or null"),
     "request": (_is_request, "a request that can be run again"),
+    "prepare": (_or_null(lambda value: _is_numbers_of(("sigma_px",), value) and _is_text(value.get("sentence"))),
+                "a Gaussian and a sentence, or null"),
     "answer": (_is_answer, "an answer"),
     "read": (_is_whole, "a whole number or null"),
     "files": (_is_files, "names of files beside it"),
-    "copy_sha256": (lambda value: value is None or isinstance(value, str), "a text or null"),
-    "sheet_sha256": (lambda value: value is None or isinstance(value, str), "a text or null"),
+    "copy_sha256": (_or_null(_is_text), "a text or null"),
+    "sheet_sha256": (_or_null(_is_text), "a text or null"),
+    "versions": (lambda value: isinstance(value, dict), "what ran"),
 }
 
 

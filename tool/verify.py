@@ -149,13 +149,13 @@ def _compare_said(fields: dict[str, Any], answer: Marked) -> None:
         raise Differs(f"a corner has no place in the photograph: {refusal.word}") from None
     if fields["corners"] is None or bits_of_corners(np.array(fields["corners"], float)) != bits_of_corners(places):
         raise Differs("a corner of the record was changed: it is not the answer's")
-    if fields["px_per_mm"] is not None:
+    if fields["px_per_mm"] is not None or fields["side_mm"] is not None:
         _compare_scale(fields, places)
 
 
 def _compare_scale(fields: dict[str, Any], places: np.ndarray) -> None:
     """Compares the pixels per millimetre with the corners and the label's side."""
-    if not fields["side_mm"] or len(fields["px_per_mm"]) != 4:
-        raise Differs("the record has pixels per millimetre, but not the label's side")
+    if not fields["side_mm"] or not fields["px_per_mm"]:
+        raise Differs("the record has pixels per millimetre without the label's side, or the other way round")
     if not np.allclose(px_per_mm(places, fields["side_mm"]), fields["px_per_mm"], rtol=1e-12, atol=0):
         raise Differs("the pixels per millimetre do not follow from the corners and the label's side")
