@@ -28,9 +28,9 @@ def module_blur(grey: np.ndarray, corners: np.ndarray, grid: np.ndarray, camera:
 def expected_error(blur: float) -> float:
     """How far a corner is off at this blur, both in modules.
 
-    A rule of thumb of the band in docs/ACCURACY.md: 0.004 at a blur of 0.2, 0.01 at 0.25, 0.02 at 0.3.
+    A rule of thumb of the band in docs/ACCURACY.md: 0.0045 at a blur of 0.2, 0.011 at 0.25, 0.023 at 0.3.
     """
-    return 0.01 * (blur / 0.25) ** 4
+    return 0.011 * (blur / 0.25) ** 4
 
 
 def drawn_levels(grid: np.ndarray, blur: float) -> np.ndarray:

@@ -165,7 +165,7 @@ def undistorted(camera: Camera, places) -> np.ndarray:
 
 
 def bent(lens, x, y):
-    """Normalised coordinates as the lens bends them."""
+    """Normalised coordinates as the lens bends them; written apart from tool/camera.py, so that tests hold one against the other."""
     k1, k2, p1, p2, k3 = lens
     square = x * x + y * y
     radial = 1.0 + square * (k1 + square * (k2 + square * k3))

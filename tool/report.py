@@ -68,7 +68,7 @@ class Row:
 def write_report(directory: Path) -> Path:
     """Writes the folder's index.html and returns its path."""
     directory = Path(directory)
-    rows = [read_row(path) for path in sorted(directory.glob("*.json"), key=lambda path: natural(path.name))]
+    rows = [read_row(path) for path in sorted(directory.glob("*.json"), key=lambda path: natural(path.stem))]
     page = directory / PAGE
     unfinished = directory / f".{PAGE}.{os.getpid()}"
     try:
@@ -109,7 +109,9 @@ def parsed(path: Path) -> Dict[str, Any]:
         raise Damaged(error.strerror or "the file cannot be opened") from error
     except (ValueError, RecursionError) as error:
         raise Damaged("it is no JSON") from error
-    if not isinstance(record, dict) or not isinstance(record.get("number", ""), (int, type(None))) or not isinstance(record.get("word"), str):
+    if not isinstance(record, dict):
+        raise Damaged("it is no record")
+    if not isinstance(record.get("number", ""), (int, type(None))) or not isinstance(record.get("word"), str):
         raise Damaged("it has no number and word of a measurement")
     return record
 
@@ -148,7 +150,8 @@ def corners_of(record: Dict[str, Any], flags: List[Any]) -> List[Dict[str, Any]]
     pairs = [[finite(value) for value in listed(pair)] for pair in listed(record.get("corners"))]
     if len(pairs) != 4 or any(len(pair) != 2 or None in pair for pair in pairs):
         return []
-    return [dict(name=name, x=x, y=y, refined=i < len(flags) and flags[i] is True) for i, (name, (x, y)) in enumerate(zip(CORNERS, pairs))]
+    known = [flag is True for flag in flags] + [False] * 4
+    return [dict(name=name, x=x, y=y, refined=refined) for name, (x, y), refined in zip(CORNERS, pairs, known)]
 
 
 def edges_of(record: Dict[str, Any]) -> List[Dict[str, Any]]:
@@ -157,8 +160,8 @@ def edges_of(record: Dict[str, Any]) -> List[Dict[str, Any]]:
     if record["number"] != 0 or len(edges) != 4 or not all(isinstance(edge, dict) for edge in edges):
         return []
     scales = listed(record.get("px_per_mm")) + [None] * 4
-    return [dict({key: edge.get(key, "?") for key in ("probed", "fit", "dropped")}, name=name, valid=bool(edge.get("valid")), scale=finite(scale))
-            for name, edge, scale in zip(SIDES, edges, scales)]
+    return [dict(name=name, probed=edge.get("probed", "?"), fit=edge.get("fit", "?"), dropped=edge.get("dropped", "?"),
+                 valid=bool(edge.get("valid")), scale=finite(scale)) for name, edge, scale in zip(SIDES, edges, scales)]
 
 
 def read_of(record: Dict[str, Any], request: Dict[str, Any]) -> Tuple[Optional[int], Optional[float]]:
@@ -172,9 +175,10 @@ def read_of(record: Dict[str, Any], request: Dict[str, Any]) -> Tuple[Optional[i
 def facts_of(record: Dict[str, Any], request: Dict[str, Any]) -> List[Tuple[str, str]]:
     """What else a reader may want to know of a record, as pairs of word and value."""
     grid = listed(request.get("grid"))
+    polarity = "light on dark" if request.get("inverted") else "dark on light"
     versions = ", ".join(f"{name} {str(value)[:16]}" for name, value in part_of(record, "versions").items())
     facts = [("photograph", f"{request.get('width')} by {request.get('height')} pixels" if request else None),
-             ("label", f"{len(grid)} by {len(grid)} modules, {'light on dark' if request.get('inverted') else 'dark on light'}" if grid else None),
+             ("label", f"{len(grid)} by {len(grid)} modules, {polarity}" if grid else None),
              ("rough corners", {"decoder": "found by the decoder", "given": "given by hand"}.get(str(record.get("rough_from")))),
              ("camera", "through a camera file" if request.get("camera") else None),
              ("photograph's SHA-256", string(record.get("photo_sha256"))),
@@ -191,12 +195,20 @@ def attach(row: Row, directory: Path, files: Dict[str, Any]) -> None:
             continue
         if not isinstance(name, str) or name in ("", ".", "..") or "/" in name or "\0" in name:
             row.warnings.append(f"The record names no file of this folder as its {word}.")
-        elif not (directory / name).is_file():
+        elif not is_there(directory / name):
             row.warnings.append(f"The {word} {name} is missing in this folder.")
         else:
             row.links.append(Link(word, address(name)))
             if key == "overlay":
                 row.overlay, row.picture = address(name), thumbnail(directory / name)
+
+
+def is_there(path: Path) -> bool:
+    """Whether there is such a file, whatever its name."""
+    try:
+        return path.is_file()
+    except (OSError, ValueError):
+        return False
 
 
 def thumbnail(path: Path) -> Optional[str]:
@@ -250,7 +262,10 @@ def finite(value: Any) -> Optional[float]:
     """A finite number, or None where the value is none."""
     if isinstance(value, bool) or not isinstance(value, (int, float)):
         return None
-    return value if math.isfinite(value) else None
+    try:
+        return value if math.isfinite(float(value)) else None
+    except OverflowError:
+        return None
 
 
 def mean(values: Any) -> Optional[float]:

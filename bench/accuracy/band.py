@@ -46,6 +46,11 @@ def drawn(cells: Dict[str, Dict[Cell, List[Result]]], path: Path) -> None:
     pyplot.close(figure)
 
 
+def shown(error: float) -> str:
+    """An error in pixels, as short as a cell is wide."""
+    return "none" if np.isnan(error) else f"{error:.2g}" if error < 0.995 else f"{error:.1f}"
+
+
 def one_panel(panel, found: Dict[Cell, List[Result]]):
     """Draws one panel, and returns its picture for the scale beside it."""
     modules, blurs = sorted({cell[0] for cell in found}), sorted({cell[1] for cell in found})
@@ -55,7 +60,7 @@ def one_panel(panel, found: Dict[Cell, List[Result]]):
     for row, blur in enumerate(blurs):
         for column, module in enumerate(modules):
             error, results = errors[row, column], found[module, blur]
-            panel.text(column, row, "none" if np.isnan(error) else f"{error:.2g}" if error < 0.995 else f"{error:.1f}", ha="center", va="center", fontsize=9)
+            panel.text(column, row, shown(error), ha="center", va="center", fontsize=9)
             if 2 * sum(result.marked or result.errors is None for result in results) > len(results):
                 panel.add_patch(pyplot.Rectangle((column - 0.46, row - 0.44), 0.92, 0.88, fill=False, linewidth=2, edgecolor="#1d2a6b"))
     panel.set_xticks(range(len(modules)), modules)

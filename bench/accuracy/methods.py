@@ -33,7 +33,8 @@ def decoder(scene: Scene) -> Found:
     if not results:
         return Found(None)
     place = results[0].position
-    return Found(np.array([[corner.x, corner.y] for corner in (place.top_left, place.top_right, place.bottom_right, place.bottom_left)], float))
+    corners = (place.top_left, place.top_right, place.bottom_right, place.bottom_left)
+    return Found(np.array([[corner.x, corner.y] for corner in corners], float))
 
 
 def rough(scene: Scene) -> Found:
@@ -109,7 +110,8 @@ FROM_HAND: Dict[str, Callable[[Scene], Found]] = {
     "the plain refinement from these": lambda scene: plain(scene, scene.given),
     "this tool with --corners": lambda scene: this_tool(scene, scene.given),
 }
-WITHOUT_CAMERA: Dict[str, Callable[[Scene], Found]] = {"this tool without the camera file": lambda scene: this_tool(scene, lens=False)}
+WITHOUT_CAMERA: Dict[str, Callable[[Scene], Found]] = {
+    "this tool without the camera file": lambda scene: this_tool(scene, lens=False)}
 WINDOWS: Dict[str, Callable[[Scene], Found]] = {
     f"a window of {window} module": lambda scene, window=window: corner_sub_pix(scene, rough(scene).corners, window)
     for window in (0.35, 0.5, 0.7, 1.0, 1.4)}

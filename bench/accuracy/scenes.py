@@ -18,7 +18,7 @@ MOVED = 0.25  # modules by which corners given by hand are off, at most, in x an
 
 @dataclass(frozen=True)
 class Case:
-    """One label to be rendered: modules a side, side and blur in pixels, tilt in degrees, noise in grey levels, and a draw of all else."""
+    """One label to be rendered: side and blur in pixels, tilt in degrees, noise in grey levels; the seed draws all else."""
     dim: int
     side: float
     blur: float

@@ -33,11 +33,13 @@ def judged(scene: Scene, found: Found) -> Result:
 
 
 def numbers(results: Iterable[Result]) -> Dict[str, float]:
-    """RMS, median and 95 % of the corners' errors in pixels, and how many labels were not answered, wrong, and wrong without a mark."""
+    """Of the corners' errors RMS, median, 95 % and the largest; of the labels how many are unanswered, marked and wrong."""
     results = list(results)
     errors = np.concatenate([result.errors for result in results if result.errors is not None] or [np.zeros(0)])
-    spread = dict(rms=float(np.sqrt((errors ** 2).mean())), median=float(np.median(errors)), most=float(np.percentile(errors, 95))) \
-        if errors.size else dict(rms=float("nan"), median=float("nan"), most=float("nan"))
+    spread = dict.fromkeys(("rms", "median", "most", "largest"), float("nan"))
+    if errors.size:
+        spread = dict(rms=float(np.sqrt((errors ** 2).mean())), median=float(np.median(errors)),
+                      most=float(np.percentile(errors, 95)), largest=float(errors.max()))
     return dict(spread, labels=len(results), silent=sum(result.errors is None for result in results),
                 marked=sum(result.marked for result in results), wrong=sum(result.wrong for result in results),
                 unmarked=sum(result.wrong and not result.marked for result in results))
@@ -67,14 +69,15 @@ def compared(results: Results, tool: str) -> str:
         named.append((f"{tool}, answers without a warning", unmarked(results[tool])))
     for name, found in named:
         n = numbers(found)
-        rows.append([name, str(n["labels"]), str(n["silent"]), number(n["rms"]), number(n["median"]), number(n["most"]), str(n["wrong"]),
-                     str(n["unmarked"])])
-    return table(["Method", "Labels", "No answer", "RMS, px", "Median, px", "95 %, px", "Wrong", "of these without a warning"], rows)
+        errors = [number(n[key]) for key in ("rms", "median", "most", "largest")]
+        rows.append([name, str(n["labels"]), str(n["silent"]), *errors, str(n["wrong"]), str(n["unmarked"])])
+    head = ["Method", "Labels", "No answer", "RMS, px", "Median, px", "95 %, px", "Largest, px", "Wrong", "of these without a warning"]
+    return table(head, rows)
 
 
 def split(results: Results, names: List[str], word: str, key: Callable[[Case], float]) -> str:
     """Median, 95 % and wrong answers of some methods for each value of one property of the labels."""
-    head = [word] + ["Labels"] + [f"{name}: median / 95 % / wrong" for name in names]
+    head = [word] + ["Labels"] + [f"{name.replace(' from these', '')}: median / 95 % / wrong" for name in names]
     rows = []
     for value in sorted({key(result.case) for result in results[names[0]]}):
         parts = {name: numbers(result for result in results[name] if key(result.case) == value) for name in names}

@@ -48,7 +48,8 @@ def test_the_decoder_counts_from_the_corner_of_the_first_pixel():
 
 def test_the_numbers_of_a_table():
     case = Case(21, 100, 0.8, False, 1)
-    results = [Result(case, np.array([0.3, 0.4, 0.0, 0.0]), False), Result(case, np.array([0.0, 0.0, 0.0, 1.0]), True), Result(case, None, False)]
+    results = [Result(case, np.array([0.3, 0.4, 0.0, 0.0]), False), Result(case, np.array([0.0, 0.0, 0.0, 1.0]), True),
+               Result(case, None, False)]
     n = numbers(results)
     assert n["rms"] == pytest.approx((1.25 / 8) ** 0.5) and n["median"] == 0
     assert (n["labels"], n["silent"], n["wrong"], n["unmarked"], n["marked"]) == (3, 1, 1, 0, 1)

@@ -1,6 +1,7 @@
 """The report, read and looked at in a real browser."""
 import html.parser
 import json
+import os
 import re
 import shutil
 import subprocess
@@ -55,7 +56,8 @@ def fixture_folder(tmp_path):
     (folder / "bare.json").write_text(json.dumps({"number": None, "word": "no QR label was found", "photo": "bare.tif"}))
     (folder / "cut.json").write_text(json.dumps(record("cut"))[:200])
     (folder / "list.json").write_text("[1, 2]")
-    (folder / "odd.json").write_text(json.dumps(record("odd", corners="?", files={"blanked": "../odd.png", "overlay": 3}, versions=7, px_per_mm=[1, "x"])))
+    odd = record("odd", corners="?", files={"blanked": "../odd.png", "overlay": 3}, versions=7, px_per_mm=[1, "x"])
+    (folder / "odd.json").write_text(json.dumps(odd))
     (folder / "summary.csv").write_text("photo\n")
     return folder
 
@@ -108,8 +110,8 @@ def test_every_record_has_its_row(folder):
     page = Page(path.read_text())
     assert path == folder / "index.html" and not list(folder.glob(".*"))
     states = {name: row["state"] for name, row in zip(names(page), page.rows)}
-    assert states == {"<b>.png": "answered", "100% #1?.jpg": "answered", "bare.tif": "refused", "cut": "damaged", "dark.jpg": "refused", "find-2.jpg": "doubtful",
-                      "find-10.jpg": "answered", "list": "damaged", "odd.jpg": "doubtful"}
+    assert states == {"<b>.png": "answered", "100% #1?.jpg": "answered", "bare.tif": "refused", "cut": "damaged", "dark.jpg": "refused",
+                      "find-2.jpg": "doubtful", "find-10.jpg": "answered", "list": "damaged", "odd.jpg": "doubtful"}
     odd = next(row["text"] for row in page.rows if "odd" in row["text"])
     assert "no file of this folder as its copy" in odd and "no file of this folder as its overlay" in odd
 
@@ -152,9 +154,26 @@ def test_a_damaged_record_says_what_is_wrong(tmp_path, contents, reason):
 
 
 def test_numbers_that_are_none_are_left_out(tmp_path):
-    put(tmp_path, "a", spread_px=float("nan"), module_px="4", read=True, px_per_mm=[float("inf")] * 4, warnings="?", refined=3, text=["x"])
+    put(tmp_path, "a", spread_px=float("nan"), module_px="4", read=True, px_per_mm=[float("inf")] * 4, warnings="?", refined=3,
+        text=["x"])
     page = Page(write_report(tmp_path).read_text())
     assert page.rows[0]["state"] == "doubtful" and "nan" not in page.rows[0]["text"] and "inf" not in page.rows[0]["text"]
+
+
+def test_the_second_label_of_a_photograph_comes_behind_the_first(tmp_path):
+    put(tmp_path, "two-2", photo="two.png", text="FIND B")
+    put(tmp_path, "two", photo="two.png", text="FIND A")
+    assert ["FIND A" in row["text"] for row in Page(write_report(tmp_path).read_text()).rows] == [True, False]
+
+
+def test_names_and_numbers_beyond_all_bounds(tmp_path):
+    put(tmp_path, "a", spread_px=10 ** 400, read=-1, text="\ud800", photo="\udcff.png",
+        files=dict(blanked="n" * 5000, sheet="\ud800.png", overlay="a\0b"), request=dict(width=0, height=0, grid=[[]]))
+    strange = os.fsdecode(b"caf\xe9.json")
+    (tmp_path / strange).write_text(json.dumps(record("x", files=None)))
+    page = write_report(tmp_path)
+    assert "./caf%E9.json" in Page(page.read_text()).links
+    assert page.read_text().count("is missing") == 2
 
 
 def test_numbers_in_names_are_ordered_as_numbers():
