@@ -65,6 +65,13 @@ def test_a_colour_copy_and_one_of_16_bits(measured):
     refused(measured, "is grey of 16 bits")
 
 
+def test_files_packed_anew_without_loss_are_the_same(measured):
+    sheet, copy = measured.picture("find.sheet.png"), measured.picture("find.blanked.png")
+    (measured.out / "find.sheet.png").write_bytes(encoded(sheet, ".png", cv2.IMWRITE_PNG_BILEVEL, 1))
+    (measured.out / "find.blanked.png").write_bytes(encoded(copy, ".png", cv2.IMWRITE_PNG_COMPRESSION, 9))
+    assert measured.verify() == 0
+
+
 def test_a_changed_pixel_that_was_read(measured):
     copy = measured.picture("find.blanked.png")
     row, column = np.argwhere(measured.picture("find.sheet.png"))[100]
