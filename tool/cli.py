@@ -59,6 +59,7 @@ class _Parser(argparse.ArgumentParser):
     """A parser that takes every negative number as a number: argparse takes -1e-3 for an option."""
 
     def parse_known_args(self, args=None, namespace=None):
+        """Parses the words, those that are numbers below 0 with a space before them, which argparse takes for no option."""
         words = sys.argv[1:] if args is None else list(args)
         return super().parse_known_args([f" {word}" if _is_negative(word) else word for word in words], namespace)
 

@@ -96,7 +96,8 @@ def test_card_takes_negative_numbers_with_an_exponent():
     ("none.pgm", "examples/label.grid", "none.pgm: cannot be read: no such file or directory"),
     ("examples/label.pgm", "none.grid", "none.grid: cannot be read: no such file or directory"),
     ("examples", "examples/label.grid", "examples: cannot be read: is a directory"),
-    ("examples/label.grid", "examples/label.grid", "not a grey PGM"), ("examples/label.pgm", "examples/label.pgm", "not a square of 0 and 1")])
+    ("examples/label.grid", "examples/label.grid", "not a grey PGM"),
+    ("examples/label.pgm", "examples/label.pgm", "not a square of 0 and 1")])
 def test_card_says_what_is_wrong_with_a_file(picture, grid, said):
     done = card(picture, grid, *ROUGH)
     assert done.returncode == 1 and said in done.stderr.decode() and done.stdout == b"" and b"Traceback" not in done.stderr

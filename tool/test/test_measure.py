@@ -244,6 +244,15 @@ def test_a_label_too_sharp_and_not_smoothed_is_said(archive):
     assert distance(archive.record("find")["corners"], made.corners) < GOOD_PX
 
 
+def test_the_overlay_shows_what_was_read_also_where_it_is_smaller(archive):
+    made = render(Label("LARGE"), quad((700, 700), side=21 * 50, angle=7), (1400, 1400), blur=5, noise=2)
+    assert archive.measure(archive.add("find.png", made.picture)) == 0
+    overlay = archive.picture("find.overlay.png").astype(int)
+    assert 900 <= overlay.shape[1] <= 901
+    orange = (overlay[..., 2] - overlay[..., 0]) > 60
+    assert orange[:900].sum() > 1000
+
+
 def test_a_label_too_blurred_is_said():
     made = a_photograph(blur=2.6)
     record = refine_picture(made.picture, made.corners, made.grid)
