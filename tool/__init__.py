@@ -25,3 +25,13 @@ class Unanswered(Exception):
     def __init__(self, sentence: str, number: int | None = None):
         super().__init__(sentence)
         self.number = number
+
+
+def printable(text: str) -> str:
+    """A text that a terminal, a file and JSON take: what cannot be printed is a question mark."""
+    return "".join(letter if letter.isprintable() else "?" for letter in text)
+
+
+def reason(error: OSError) -> str:
+    """Why the system refused, in its words."""
+    return (error.strerror or str(error)).lower()

@@ -3,18 +3,19 @@ from __future__ import annotations
 
 import argparse
 import math
+import os
 import sys
 from pathlib import Path
 
 import numpy as np
 from trufolmesca import LibraryMissing
 
-from tool import Unanswered
+from tool import Unanswered, reason
 from tool.camera import read_camera
 from tool.many import measure_many, write_summary
 from tool.measure import Options
 
-ANSWERED, SOME_REFUSED, BAD_USAGE = 0, 1, 2
+ANSWERED, SOME_REFUSED, BAD_USAGE, STOPPED = 0, 1, 2, 130
 
 DESCRIPTION = """\
 Measures the corners of QR labels on photographs to a fraction of a pixel, and writes a copy of each
@@ -58,6 +59,7 @@ class _Parser(argparse.ArgumentParser):
     """A parser that takes every negative number as a number: argparse takes -1e-3 for an option."""
 
     def parse_known_args(self, args=None, namespace=None):
+        """Parses the words, those that are numbers below 0 with a space before them, which argparse takes for no option."""
         words = sys.argv[1:] if args is None else list(args)
         return super().parse_known_args([f" {word}" if _is_negative(word) else word for word in words], namespace)
 
@@ -166,7 +168,13 @@ def main(arguments: list[str] | None = None) -> int:
         return BAD_USAGE
     except KeyboardInterrupt:
         print("trufolmesca: stopped; what was written is whole", file=sys.stderr)
-        return 130
+        return STOPPED
+    except BrokenPipeError:
+        os.dup2(os.open(os.devnull, os.O_WRONLY), sys.stdout.fileno())  # nobody reads on, as with `| head`
+        return SOME_REFUSED
+    except OSError as error:
+        print(f"trufolmesca: {error.filename or asked.command}: {reason(error)}", file=sys.stderr)
+        return SOME_REFUSED
 
 
 def _measure(asked: argparse.Namespace) -> int:
@@ -177,7 +185,7 @@ def _measure(asked: argparse.Namespace) -> int:
     try:
         asked.out.mkdir(parents=True, exist_ok=True)
     except OSError as error:
-        raise Unanswered(f"the directory {asked.out} cannot be made: {(error.strerror or str(error)).lower()}") from None
+        raise Unanswered(f"the directory {asked.out} cannot be made: {reason(error)}") from None
     return ANSWERED if measure_many(asked.photos, asked.out, options, asked.jobs) else SOME_REFUSED
 
 

@@ -18,6 +18,7 @@ DECODER_SCALES = (1, 2, 0.5)  # of 244 rendered labels it found 243 as they were
 MOST_ENLARGED_PX = 1 << 23
 PATTERN_AGREEMENT = 0.9  # of the finder and timing modules; a wrong dimension or order agrees to less than 0.8
 MOST_DISAGREEING = 0.05  # of a label's modules; a mirrored label differs in more than a quarter
+FAR_PX = 1 << 20         # beyond any picture
 CORRELATION_STEPS = 60
 FITTED_REACH = 1.0       # modules that the fit may move a decoder's corner: more, and it has found something else
 
@@ -60,8 +61,13 @@ def _decode_scaled(grey: np.ndarray, scale: float, polarities: tuple[bool, ...])
     for inverted in polarities:
         picture = cv2.bitwise_not(sized) if inverted else sized
         for result in zxingcpp.read_barcodes(picture, formats=zxingcpp.BarcodeFormat.QRCode):
-            found.append(Found(result.text, _corners_of(result.position, scale), inverted))
+            found.append(Found(_encodable(result.text), _corners_of(result.position, scale), inverted))
     return found
+
+
+def _encodable(text: str) -> str:
+    """A label's text as it can be written: a label can hold any bytes."""
+    return text.encode("utf-8", "replace").decode()
 
 
 def _corners_of(position: zxingcpp.Position, scale: float) -> np.ndarray:
@@ -74,7 +80,13 @@ def text_of(grid: np.ndarray) -> str | None:
     """The text of a label's modules, if the decoder reads them."""
     drawn = np.kron(np.pad(1 - grid, 4, constant_values=1), np.ones((4, 4))) * 255
     results = zxingcpp.read_barcodes(drawn.astype(np.uint8), formats=zxingcpp.BarcodeFormat.QRCode)
-    return results[0].text if results else None
+    return _encodable(results[0].text) if results else None
+
+
+def module_side(corners: np.ndarray, dim: int) -> float:
+    """The side of a module along the shortest edge of a label."""
+    edges = np.linalg.norm(corners - np.roll(corners, 1, axis=0), axis=1)
+    return float(edges.min()) / dim
 
 
 def module_map(corners: np.ndarray, dim: int) -> np.ndarray:
@@ -89,12 +101,14 @@ def module_map(corners: np.ndarray, dim: int) -> np.ndarray:
 def mapped(map_: np.ndarray, points: np.ndarray) -> np.ndarray:
     """Where a map sends points."""
     ends = points @ map_[:, :2].T + map_[:, 2]
-    return ends[..., :2] / ends[..., 2:]
+    with np.errstate(divide="ignore", invalid="ignore"):  # corners that are no quadrilateral have no map
+        return ends[..., :2] / ends[..., 2:]
 
 
 def sample(grey: np.ndarray, map_: np.ndarray, camera: Camera | None, points: np.ndarray) -> np.ndarray:
     """The picture at places in module coordinates, between its pixels; beyond the picture its nearest pixel."""
-    places = to_source(camera, mapped(map_, points)).astype(np.float32)
+    places = to_source(camera, mapped(map_, points))
+    places = np.clip(np.nan_to_num(places, nan=0.0), -FAR_PX, FAR_PX).astype(np.float32)
     return cv2.remap(grey, places[..., 0], places[..., 1], cv2.INTER_LINEAR, borderMode=cv2.BORDER_REPLICATE)
 
 

@@ -19,6 +19,7 @@ from pathlib import Path
 import cv2
 from tqdm import tqdm
 
+from tool import printable, reason
 from tool.measure import Options, measure
 from tool.photograph import sha256_of_file
 from tool.pictures import overlay_of, png_of
@@ -53,12 +54,13 @@ class Task:
 def names_for(photos: list[Path], directory: Path) -> list[str]:
     """A name for each photograph's outputs: its stem, with a number behind it where that is another photograph's."""
     names: list[str] = []
-    stems = {photo.stem for photo in photos}
+    stems = {printable(photo.stem) for photo in photos}
     for photo in photos:
-        name, count = photo.stem, 1
+        stem = printable(photo.stem)
+        name, count = stem, 1
         while name in names or (count > 1 and name in stems) or _is_anothers(directory, name, photo):
             count += 1
-            name = f"{photo.stem}_{count}"
+            name = f"{stem}_{count}"
         names.append(name)
     return names
 
@@ -206,7 +208,7 @@ def measured_and_written(task: Task) -> Outcome:
     except MemoryError:
         return _given_up(task, "the memory does not suffice for this picture")
     except OSError as error:
-        return Outcome([f"{task.photo}: the outputs cannot be written: {error}"], False)
+        return Outcome([f"{printable(str(task.photo))}: the outputs cannot be written: {reason(error)}"], False)
     except Exception as error:  # one photograph must not end the work on the others
         return _given_up(task, f"a mistake in this tool ({type(error).__name__}: {error}); please report it")
     lines = [line_of(task.photo, record) for record in records]
@@ -215,7 +217,7 @@ def measured_and_written(task: Task) -> Outcome:
 
 def _given_up(task: Task, why: str) -> Outcome:
     """The outcome of a photograph that could not be worked on, with its record."""
-    record = Record(None, why, task.photo.name)
+    record = Record(None, why, printable(task.photo.name))
     try:
         write_outputs(task.directory, task.name, record)
     except OSError:
@@ -261,15 +263,16 @@ def write_outputs(directory: Path, name: str, record: Record) -> None:
 
 def line_of(photo: Path, record: Record) -> str:
     """One line for people: the corners and how well they repeat, or why there are none."""
-    label = f" '{record.text}'" if record.text else ""
+    label = f" '{printable(record.text)}'" if record.text else ""
+    shown = f"{printable(str(photo))}{label}"
     warnings = "".join(f" WARNING: {warning}" for warning in record.warnings)
     if record.corners is None:
         number = "" if record.number is None else f" by {record.number}"
-        return f"{photo}{label}: refused{number}: {record.word}.{warnings}"
+        return f"{shown}: refused{number}: {record.word}.{warnings}"
     corners = " ".join(f"({x:.3f}, {y:.3f})" for x, y in record.corners)
     smoothed = record.prepare["sigma_px"]
     prepared = f", smoothed by {smoothed:g} px first" if smoothed else ""
-    return f"{photo}{label}: {corners}, repeats to {record.spread_px:.3f} px, {record.read} pixels read{prepared}.{warnings}"
+    return f"{shown}: {corners}, repeats to {record.spread_px:.3f} px, {record.read} pixels read{prepared}.{warnings}"
 
 
 def write_summary(directory: Path) -> None:

@@ -9,7 +9,7 @@ import cv2
 import numpy as np
 from trufolmesca import Answer, Camera, Number, Refused
 
-from tool import Unanswered, label
+from tool import Unanswered, label, printable
 from tool.blur import expected_error, module_blur
 from tool.camera import to_rectified
 from tool.label import MOST_DISAGREEING, PATTERN_AGREEMENT
@@ -22,8 +22,9 @@ MOVED_MODULES = 0.15       # how far a repeated run's corners are moved: inside 
 MOST_SPREAD_PX = 0.1       # above this an answer depends on where it began, so it is marked 'not repeatable'
 SMOOTHING_MODULES = 0.12   # a Gaussian that gave 0.018 to 0.043 pixel where the plain run gave 0.7 to 4.6
 ROUGH_SEED = 20260         # the repeated runs begin at the same places each time
-# The refinement's samples are half a module apart. Where label.edge_blur is below 0.07 module an edge falls between two of
-# them, and the error is 0.06 to 4 pixels (bench/accuracy finds it); 0.01 is added to be safe.
+# The refinement's samples are half a module apart, so a sharp edge falls between two of them. bench/accuracy/sharpness, on 576
+# labels: where label.edge_blur is below 0.07 module the farthest corner is off by 0.08 to 1.9 pixels at the median, 12 at most; from
+# 0.07 to 0.12 by 0.03 and 0.12; smoothed, by 0.02 and 0.09 in both. 0.01 is added to be safe.
 TOO_SHARP_MODULES = 0.08
 
 NOT_REPEATABLE = "Not repeatable: from rough corners moved by {moved} module the answer moves by {spread:.2f} pixel."
@@ -69,8 +70,7 @@ class Request:
     @property
     def module_px(self) -> float:
         """The side of a module of the rough label, along its shortest edge."""
-        edges = np.linalg.norm(self.rough - np.roll(self.rough, 1, axis=0), axis=1)
-        return float(edges.min()) / len(self.grid)
+        return label.module_side(self.rough, len(self.grid))
 
 
 def measure(photo_path: Path | str, options: Options = Options()) -> list[Record]:
@@ -79,13 +79,18 @@ def measure(photo_path: Path | str, options: Options = Options()) -> list[Record
     try:
         photograph = read_photograph(path)
     except Unanswered as why:
-        return [Record(why.number, str(why), path.name)]
+        return [Record(why.number, str(why), printable(path.name))]
     try:
         _check_camera_size(photograph, options)
         requests = [_given(photograph.grey, options)] if options.corners is not None else _decoded(photograph.grey, options)
     except Unanswered as why:
-        return [Record(why.number, str(why), path.name, photograph.sha256, warnings=list(photograph.warnings))]
+        return [_refusal(photograph, why)]
     return [_measured(photograph, request, options) for request in requests]
+
+
+def _refusal(photograph: Photograph, why: Unanswered) -> Record:
+    """The record of a photograph, or of a label on it, that has no answer."""
+    return Record(why.number, str(why), photograph.name, photograph.sha256, warnings=list(photograph.warnings))
 
 
 def _check_camera_size(photograph: Photograph, options: Options) -> None:
@@ -99,11 +104,11 @@ def _check_camera_size(photograph: Photograph, options: Options) -> None:
 def _measured(photograph: Photograph, request: Request | Unanswered, options: Options) -> Record:
     """The record of one label."""
     if isinstance(request, Unanswered):
-        return Record(request.number, str(request), photograph.name, photograph.sha256, warnings=list(photograph.warnings))
+        return _refusal(photograph, request)
     try:
         record = _refined(photograph.grey, request, *preparation(photograph.grey, request, options.prepare))
     except Refused as refusal:
-        return Record(refusal.number, refusal.word, photograph.name, photograph.sha256, warnings=list(photograph.warnings))
+        return _refusal(photograph, Unanswered(refusal.word, refusal.number))
     record.photo, record.photo_sha256 = photograph.name, photograph.sha256
     record.warnings = [*photograph.warnings, *record.warnings]
     record.prepare["sentence"] = " ".join([*photograph.conversions, record.prepare["sentence"]])
@@ -126,7 +131,7 @@ def _given(grey: np.ndarray, options: Options) -> Request:
     if options.grid is not None:
         return Request(options.corners, options.grid, options.inverted, options.camera, text=label.text_of(options.grid))
     corners = to_rectified(options.camera, options.corners)
-    for inverted in (options.inverted, True):
+    for inverted in (True,) if options.inverted else (False, True):
         reading = label.read_grid(grey, corners, options.camera, inverted)
         if reading.agreement >= PATTERN_AGREEMENT:
             return Request(options.corners, reading.grid, inverted, options.camera, text=label.text_of(reading.grid))
@@ -139,8 +144,8 @@ def _unread(grey: np.ndarray, corners: np.ndarray, options: Options) -> str:
         turned = np.roll(corners, -turn, axis=0)
         if label.read_grid(grey, turned, options.camera, options.inverted).agreement >= PATTERN_AGREEMENT:
             x, y = options.corners[turn]
-            return ("the corners are in the wrong order: the label's top left, the one between two finder patterns, "
-                    f"is the corner given as {x:g} {y:g}")
+            return (f"the corners are in the wrong order: the label's top left corner is the one given as {x:g} {y:g} "
+                    "(its three large squares stand at top left, top right and bottom left)")
     return ("no label is to be read under these corners: its finder and timing patterns are not there. "
             "Are the corners top left, top right, bottom right, bottom left, and within a quarter of a module?")
 
@@ -163,7 +168,7 @@ def _request_of(grey: np.ndarray, found: label.Found, options: Options) -> Reque
         return why
     reading = label.read_grid(grey, corners, options.camera, found.inverted)
     if reading.agreement < PATTERN_AGREEMENT:
-        return Unanswered(f"the modules of the label '{found.text}' could not be read: {100 * reading.agreement:.0f} % "
+        return Unanswered(f"the modules of the label '{printable(found.text)}' could not be read: {100 * reading.agreement:.0f} % "
                           "of its finder and timing patterns agree")
     fitted = label.fitted(grey, corners, reading.grid, options.camera, found.inverted)
     again = label.read_grid_of(grey, fitted, len(reading.grid), options.camera, found.inverted)
@@ -219,7 +224,7 @@ def _refined(grey: np.ndarray, request: Request, sigma: float, sentence: str) ->
 
 def _spread(picture: np.ndarray, request: Request, corners: np.ndarray, places: np.ndarray) -> tuple[float, int]:
     """How far the corners of repeated runs lie from the answer's, at most, and how many runs were refused."""
-    reach = MOVED_MODULES * request.module_px
+    reach = MOVED_MODULES * label.module_side(corners, len(request.grid))
     moves = np.random.default_rng(ROUGH_SEED).uniform(-reach, reach, (REPEATED_RUNS, 4, 2))
     spread, refusals = 0.0, 0
     for move in moves:

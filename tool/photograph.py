@@ -9,14 +9,16 @@ from collections.abc import Iterator
 from contextlib import contextmanager
 from dataclasses import dataclass
 from pathlib import Path
+from typing import BinaryIO
 
 import cv2
 import numpy as np
 from trufolmesca import Number, word_of
 
-from tool import LARGEST_SIDE, Unanswered
+from tool import LARGEST_SIDE, Unanswered, printable, reason
 
 AS_STORED = cv2.IMREAD_ANYDEPTH | cv2.IMREAD_ANYCOLOR  # turned as EXIF says, without alpha
+JPEG_START = b"\xff\xd8\xff"
 GREY_SENTENCE = "Colour was turned to grey by OpenCV's weights, 0.299 red + 0.587 green + 0.114 blue."
 DEPTH_SENTENCE = "Samples of 16 bits were brought to 8 by dividing by 257 and rounding."
 FLOAT_SENTENCE = "Samples that are fractions were brought to 8 bits, 0 to 1 (or to the largest, if above 1) as 0 to 255."
@@ -43,22 +45,23 @@ def sha256_of_file(path: Path) -> str:
 def read_photograph(path: Path) -> Photograph:
     """A photograph's grey pixels; Unanswered, with a sentence, where the file holds no picture."""
     try:
-        sha256 = sha256_of_file(path)
+        with open(path, "rb") as file:
+            sha256 = hashlib.file_digest(file, "sha256").hexdigest()
+            stored, complaint = _decode(file, AS_STORED)
+            conversions: list[str] = []
+            grey = _on_white(file, stored, _one_channel(stored, conversions), conversions)
     except OSError as error:
-        raise Unanswered(f"the file cannot be read: {(error.strerror or str(error)).lower()}") from None
-    stored, complaint = _decode(path, AS_STORED)
-    conversions = []
-    grey = _one_channel(stored, conversions)
-    grey = _on_white(path, stored, grey, conversions)
+        raise Unanswered(f"the file cannot be read: {reason(error)}") from None
     warnings = (f"The file is damaged, and a part of the picture may be missing ({complaint}).",) if complaint else ()
-    return Photograph(path.name, sha256, _eight_bits(grey, conversions), tuple(conversions), warnings)
+    return Photograph(printable(path.name), sha256, _eight_bits(grey, conversions), tuple(conversions), warnings)
 
 
-def _decode(path: Path, flags: int) -> tuple[np.ndarray, str]:
+def _decode(file: BinaryIO, flags: int) -> tuple[np.ndarray, str]:
     """A file's samples, and what the decoder complained about."""
     with _decoder_messages() as messages:
         try:
-            stored = cv2.imread(str(path), flags)
+            # By its descriptor it is the file that was hashed, and its name may be any bytes.
+            stored = cv2.imread(f"/proc/self/fd/{file.fileno()}", flags)
         except (cv2.error, MemoryError) as error:
             if "CV_IO_MAX_IMAGE" in str(error):
                 raise Unanswered(word_of(Number.SIZE), Number.SIZE) from None
@@ -96,12 +99,13 @@ def _one_channel(stored: np.ndarray, conversions: list[str]) -> np.ndarray:
     return cv2.cvtColor(stored, cv2.COLOR_BGR2GRAY)
 
 
-def _on_white(path: Path, stored: np.ndarray, grey: np.ndarray, conversions: list[str]) -> np.ndarray:
+def _on_white(file: BinaryIO, stored: np.ndarray, grey: np.ndarray, conversions: list[str]) -> np.ndarray:
     """The grey samples laid on white where the file has an alpha channel, so that what is read is what is seen."""
-    if path.suffix.lower() in (".jpg", ".jpeg"):
+    file.seek(0)
+    if stored.ndim != 3 or file.read(len(JPEG_START)) == JPEG_START:  # these have no alpha channel
         return grey
-    unturned, _ = _decode(path, cv2.IMREAD_UNCHANGED)
-    if unturned.ndim != 3 or unturned.shape[2] != 4 or stored.ndim != 3:
+    unturned, _ = _decode(file, cv2.IMREAD_UNCHANGED)
+    if unturned.ndim != 3 or unturned.shape[2] != 4:
         return grey
     conversions.append(ALPHA_SENTENCE)
     white = 1.0 if grey.dtype == np.float32 else float(np.iinfo(grey.dtype).max)

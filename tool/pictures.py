@@ -36,7 +36,7 @@ def overlay_of(record: Record) -> np.ndarray:
     scale = max(1, math.floor(scale)) if scale >= 1 else scale
     drawn = cv2.cvtColor(_sized(record.prepared[top:bottom, left:right], scale), cv2.COLOR_GRAY2BGR)
     if record.sheet is not None:
-        marked = _sized(record.sheet[top:bottom, left:right], scale) > 0
+        marked = _sized(record.sheet[top:bottom, left:right] * 255, scale) > 0
         drawn[marked] = (0.45 * drawn[marked] + 0.55 * np.array(READ_BGR)).astype(np.uint8)
     _quadrilateral(drawn, record.rough, (left, top), scale, ROUGH_BGR)
     if record.corners is not None:

@@ -12,13 +12,13 @@ import cv2
 import numpy as np
 from trufolmesca import Camera, Intrinsics, Lens
 
-from tool import LARGEST_SIDE
+from tool import LARGEST_SIDE, reason
 from tool.record import PICTURES
 
 PNG_SIGNATURE = b"\x89PNG\r\n\x1a\n"
 PICTURE_CHUNKS = {b"IHDR", b"IDAT", b"IEND"}
 OTHER_FORMATS = {b"\xff\xd8\xff": "JPEG", b"II*\0": "TIFF", b"MM\0*": "TIFF", b"GIF8": "GIF", b"RIFF": "WebP", b"BM": "BMP"}
-GREY_OF_8_BITS = (8, 0)
+GREY, GREY_DEPTHS = 0, (1, 2, 4, 8)  # a sheet packed anew without loss has 1 bit a pixel
 LARGEST_NUMBER = 1e300
 COLOUR_TYPES = {0: "grey", 2: "colour", 3: "palette", 4: "grey with transparency", 6: "colour with transparency"}
 
@@ -32,7 +32,7 @@ def read_fields(path: Path) -> dict[str, Any]:
     try:
         fields = json.loads(path.read_bytes())
     except OSError as error:
-        raise Differs(f"the file cannot be read: {(error.strerror or str(error)).lower()}") from None
+        raise Differs(f"the file cannot be read: {reason(error)}") from None
     except (ValueError, RecursionError):
         raise Differs("the file is damaged: it is not JSON") from None
     if not isinstance(fields, dict):
@@ -189,7 +189,7 @@ def read_published(path: Path, what: str, request: dict[str, Any]) -> np.ndarray
         raise Differs(f"the {what} {path.name} is not there, or cannot be read") from None
     chunks = _chunks(data, f"{what} {path.name}")
     width, height, depth, colour = struct.unpack(">IIBB", chunks[0][1][:10])
-    if (depth, colour) != GREY_OF_8_BITS:
+    if colour != GREY or depth not in GREY_DEPTHS:
         raise Differs(f"the {what} {path.name} is {COLOUR_TYPES.get(colour, 'of an unknown kind')} of {depth} bits, not grey of 8")
     if (width, height) != (request["width"], request["height"]):
         raise Differs(f"the {what} {path.name} has {width} by {height} pixels, and the photograph had "

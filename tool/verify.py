@@ -8,7 +8,7 @@ from typing import Any
 import numpy as np
 from trufolmesca import Marked, Number, Refused, word_of
 
-from tool import Unanswered
+from tool import Unanswered, printable
 from tool.published import Differs, camera_of, read_fields, read_published
 from tool.record import bits_of, bits_of_corners, camera_as_json, sha256_of_pixels
 from tool.refinement import in_photograph, px_per_mm, refine_marking
@@ -28,7 +28,7 @@ def verify_directory(directory: Path) -> bool:
             verdict = verify_record(path)
         except Differs as difference:
             verdict, all_same = f"DIFFERS: {difference}", False
-        print(f"{path}: {verdict}", flush=True)
+        print(f"{printable(str(path))}: {verdict}", flush=True)
     return all_same
 
 

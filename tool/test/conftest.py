@@ -2,6 +2,7 @@
 from __future__ import annotations
 
 import json
+import shutil
 import struct
 import sys
 import zlib
@@ -113,9 +114,17 @@ def archive(tmp_path: Path, capsys) -> Archive:
     return Archive(tmp_path, capsys)
 
 
+@pytest.fixture(scope="session")
+def measured_once(tmp_path_factory) -> Path:
+    """A directory with one photograph, measured; nobody changes it."""
+    home = tmp_path_factory.mktemp("measured")
+    (home / "find.png").write_bytes(encoded(a_photograph().picture, ".png"))
+    assert main(["measure", str(home / "find.png"), "--side-mm", "20", "--out", str(home / "out")]) == 0
+    return home
+
+
 @pytest.fixture
-def measured(archive: Archive) -> Archive:
+def measured(archive: Archive, measured_once: Path) -> Archive:
     """An archive with one photograph, measured."""
-    archive.add("find.png", a_photograph().picture)
-    assert archive.measure(archive.home / "find.png", "--side-mm", 20) == 0
+    shutil.copytree(measured_once, archive.home, dirs_exist_ok=True)
     return archive

@@ -5,7 +5,7 @@ import subprocess
 from pathlib import Path
 
 import pytest
-from conftest import a_photograph
+from conftest import a_photograph, encoded
 
 ROOT = Path(__file__).resolve().parents[2]
 ROUGH = (ROOT / "examples/label.rough").read_text().split()
@@ -49,11 +49,31 @@ def test_corners_below_zero_with_an_exponent_are_numbers(archive):
 
 def test_the_command_itself(tmp_path):
     path = tmp_path / "find.png"
-    from conftest import encoded
     path.write_bytes(encoded(a_photograph().picture, ".png"))
     done = subprocess.run([ROOT / "trufolmesca", "measure", path, "--out", tmp_path / "out"], capture_output=True, text=True, cwd=tmp_path)
     assert done.returncode == 0 and "FIND 1234" in done.stdout and done.stderr == ""
     assert subprocess.run([ROOT / "trufolmesca", "verify", tmp_path / "out"], capture_output=True).returncode == 0
+
+
+def test_names_of_any_bytes_and_texts_with_escapes(archive):
+    photo = archive.home / b"\xff\n-find.png".decode("utf-8", "surrogateescape")
+    photo.write_bytes(encoded(a_photograph("A\x1b[31m\nB").picture, ".png"))
+    assert archive.measure(photo, archive.home / "no\udcffne.png") == 1
+    assert archive.said.count("\n") == 2 and "\x1b" not in archive.said and "??-find.png 'A?[31m?B': (" in archive.said
+    assert archive.record("??-find")["photo"] == "??-find.png" and archive.record("??-find")["text"] == "A\x1b[31m\nB"
+    assert archive.verify() == 0
+
+
+def test_nobody_reads_on(measured):
+    for index in range(2000):
+        (measured.out / f"{index}.json").write_text("{}")
+    done = subprocess.run(f"{ROOT}/trufolmesca verify {measured.out} | head -1", shell=True, capture_output=True, text=True)
+    assert done.stderr == "" and done.stdout.count("\n") == 1
+
+
+def test_setup_knows_its_words():
+    done = subprocess.run([ROOT / "tools/setup", "--everything"], capture_output=True, text=True)
+    assert done.returncode == 2 and done.stderr == "usage: tools/setup [--tests]\n"
 
 
 def card(*words: str) -> subprocess.CompletedProcess:
@@ -76,7 +96,8 @@ def test_card_takes_negative_numbers_with_an_exponent():
     ("none.pgm", "examples/label.grid", "none.pgm: cannot be read: no such file or directory"),
     ("examples/label.pgm", "none.grid", "none.grid: cannot be read: no such file or directory"),
     ("examples", "examples/label.grid", "examples: cannot be read: is a directory"),
-    ("examples/label.grid", "examples/label.grid", "not a grey PGM"), ("examples/label.pgm", "examples/label.pgm", "not a square of 0 and 1")])
+    ("examples/label.grid", "examples/label.grid", "not a grey PGM"),
+    ("examples/label.pgm", "examples/label.pgm", "not a square of 0 and 1")])
 def test_card_says_what_is_wrong_with_a_file(picture, grid, said):
     done = card(picture, grid, *ROUGH)
     assert done.returncode == 1 and said in done.stderr.decode() and done.stdout == b"" and b"Traceback" not in done.stderr

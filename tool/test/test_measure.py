@@ -2,12 +2,15 @@
 from __future__ import annotations
 
 import csv
+import multiprocessing
+import os
 import struct
 
 import numpy as np
 import pytest
 from conftest import GOOD_PX, SIZE, a_photograph, distance, encoded, two_labels
 
+from tool import many
 from tool.label import PATTERN_AGREEMENT, decode, edge_blur, fixed_patterns, pattern_agreement, read_grid, text_of
 from tool.measure import Options, measure, preparation, refine_picture, Request
 from tool.render import Label, encoded as modules_of, quad, render
@@ -166,7 +169,7 @@ def test_corners_in_another_order_are_said(archive, turn, said):
     assert record.number != 0 or any(f"another order: {said} of those given" in warning for warning in record.warnings)
     unread, = measure(path, Options(corners=np.roll(made.corners, turn, axis=0)))
     x, y = made.corners[0]
-    assert unread.number is None and f"is the corner given as {x:g} {y:g}" in unread.word
+    assert unread.number is None and f"is the one given as {x:g} {y:g}" in unread.word
 
 
 def test_mirrored_corners_are_said(archive):
@@ -241,6 +244,15 @@ def test_a_label_too_sharp_and_not_smoothed_is_said(archive):
     assert distance(archive.record("find")["corners"], made.corners) < GOOD_PX
 
 
+def test_the_overlay_shows_what_was_read_also_where_it_is_smaller(archive):
+    made = render(Label("LARGE"), quad((700, 700), side=21 * 50, angle=7), (1400, 1400), blur=5, noise=2)
+    assert archive.measure(archive.add("find.png", made.picture)) == 0
+    overlay = archive.picture("find.overlay.png").astype(int)
+    assert 900 <= overlay.shape[1] <= 901
+    orange = (overlay[..., 2] - overlay[..., 0]) > 60
+    assert orange[:900].sum() > 1000
+
+
 def test_a_label_too_blurred_is_said():
     made = a_photograph(blur=2.6)
     record = refine_picture(made.picture, made.corners, made.grid)
@@ -305,6 +317,24 @@ def test_a_label_in_uneven_light_is_read(archive):
     light = np.linspace(0.25, 1.0, SIZE[0])[None, :]
     record, = measure(archive.add("find.png", np.rint(made.picture * light).astype(np.uint8)))
     assert record.number == 0 and ["".join(map(str, row)) for row in made.grid] == record.request["grid"]
+
+
+def test_a_worker_that_dies_is_said_and_the_rest_goes_on(archive, monkeypatch):
+    photos = [archive.add(f"find{index}.png", a_photograph(f"FIND {index}").picture) for index in range(6)]
+    measured = many.measure
+    monkeypatch.setattr(many, "measure", lambda photo, options: os._exit(9) if photo.stem == "find2" else measured(photo, options))
+    monkeypatch.setattr(many, "get_context", lambda _: multiprocessing.get_context("fork"))
+    assert archive.measure(*photos, "--jobs", 2) == 1
+    assert archive.said.count("FIND ") == 5 and archive.said.count("ended from outside") == 1
+    assert archive.record("find2")["number"] is None and archive.record("find5")["number"] == 0
+
+
+def test_a_mistake_in_the_tool_is_said_and_the_rest_goes_on(archive, monkeypatch):
+    photos = [archive.add(f"find{index}.png", a_photograph().picture) for index in range(2)]
+    measured = many.measure
+    monkeypatch.setattr(many, "measure", lambda photo, options: 1 // 0 if photo.stem == "find0" else measured(photo, options))
+    assert archive.measure(*photos, "--jobs", 1) == 1
+    assert "a mistake in this tool (ZeroDivisionError" in archive.said and archive.record("find1")["number"] == 0
 
 
 def test_work_in_parallel_gives_the_same_records(archive):

@@ -89,6 +89,15 @@ def test_corners_of_a_turned_photograph_are_those_of_the_picture_as_it_is_seen(a
     assert distance(record.corners, made.corners) < GOOD_PX and record.request["width"] == made.picture.shape[1]
 
 
+def test_a_picture_under_the_name_of_another_format(archive):
+    made = a_photograph()
+    alpha = np.full(made.picture.shape, 255, np.uint8)
+    alpha[:, :20] = 0
+    png = encoded(np.dstack([made.picture] * 3 + [alpha]), ".png")
+    assert (read_photograph(archive.add("find.jpg", png)).grey[:, :20] == 255).all()
+    assert measure(archive.add("find.tif", encoded(made.picture, ".jpg")))[0].number == 0
+
+
 @pytest.mark.parametrize("contents", [b"", b"no picture", encoded(np.zeros((9, 9), np.uint8), ".png")[:50],
                                       encoded(a_photograph().picture, ".tif")[:9000]])
 def test_what_is_no_picture_is_said(archive, contents):

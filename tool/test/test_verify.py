@@ -65,6 +65,13 @@ def test_a_colour_copy_and_one_of_16_bits(measured):
     refused(measured, "is grey of 16 bits")
 
 
+def test_files_packed_anew_without_loss_are_the_same(measured):
+    sheet, copy = measured.picture("find.sheet.png"), measured.picture("find.blanked.png")
+    (measured.out / "find.sheet.png").write_bytes(encoded(sheet, ".png", cv2.IMWRITE_PNG_BILEVEL, 1))
+    (measured.out / "find.blanked.png").write_bytes(encoded(copy, ".png", cv2.IMWRITE_PNG_COMPRESSION, 9))
+    assert measured.verify() == 0
+
+
 def test_a_changed_pixel_that_was_read(measured):
     copy = measured.picture("find.blanked.png")
     row, column = np.argwhere(measured.picture("find.sheet.png"))[100]
@@ -131,25 +138,44 @@ def test_a_changed_corner(measured, part, bits, words):
 
 
 @pytest.mark.parametrize("edit, words", [
-    (lambda f: f.update(number=9), "not in 9"), (lambda f: f.update(word="fine"), "words are not those of number 0"),
+    (lambda f: f.update(number=9), "not in 9"),
+    (lambda f: f.update(word="fine"), "words are not those of number 0"),
     (lambda f: f.update(refined=[True, True, True, False]), "other corners were refined"),
-    (lambda f: f.update(read=3), "and the record says 3"), (lambda f: f["answer"]["edges"][0].update(fit=1), "other edge points"),
-    (lambda f: f["px_per_mm"].__setitem__(0, 1.0), "pixels per millimetre"), (lambda f: f.update(side_mm=25.0), "pixels per millimetre"),
-    (lambda f: f.update(side_mm=None), "without the label's side"), (lambda f: f.update(px_per_mm=None), "without the label's side"),
-    (lambda f: f.update(spread_px=10 ** 400), "'spread_px' is not"), (lambda f: f["answer"]["corners"][0].__setitem__(0, 10 ** 400), "'answer' is not"),
-    (lambda f: f["request"].update(stride=1), "'request' is not"), (lambda f: f.update(warnings="none"), "'warnings' is not"),
+    (lambda f: f.update(read=3), "and the record says 3"),
+    (lambda f: f["answer"]["edges"][0].update(fit=1), "other edge points"),
+    (lambda f: f["px_per_mm"].__setitem__(0, 1.0), "pixels per millimetre"),
+    (lambda f: f.update(side_mm=25.0), "pixels per millimetre"),
+    (lambda f: f.update(side_mm=None), "without the label's side"),
+    (lambda f: f.update(px_per_mm=None), "without the label's side"),
     (lambda f: f["rough"][0].__setitem__(0, 1.0), "a rough corner was changed"),
-    (lambda f: f["request"].update(inverted=True), "DIFFERS"), (lambda f: f.update(files=None), "names no copy"),
+    (lambda f: f["request"].update(inverted=True), "DIFFERS"),
     (lambda f: f["request"]["grid"].__setitem__(0, "1" * 21), "DIFFERS"),
-    (lambda f: f.update(request=None), "no request and answer"), (lambda f: f.pop("answer"), "it has no 'answer'"),
-    (lambda f: f.update(corners=[1, 2]), "'corners' is not four pairs"), (lambda f: f.update(request=[]), "'request' is not"),
-    (lambda f: f["request"].update(grid=["01", "2"]), "'request' is not"), (lambda f: f["request"].update(width=10 ** 9), "'request' is not"),
-    (lambda f: f["request"].update(camera={"source": 1}), "'request' is not"), (lambda f: f["answer"].update(corners=None), "'answer' is not"),
-    (lambda f: f["files"].update(blanked="../find.png"), "'files' is not names of files beside it"),
-    (lambda f: f["files"].update(blanked="other.png"), "other.png is not there"), (lambda f: f.update(number="0"), "'number' is not"),
-    (lambda f: f.update(read=True), "'read' is not"), (lambda f: f.update(refined=5), "'refined' is not"),
-    (lambda f: f.update(corners=None), "a corner of the record was changed")])
+    (lambda f: f.update(files=None), "names no copy"),
+    (lambda f: f.update(request=None), "no request and answer"),
+    (lambda f: f.update(corners=None), "a corner of the record was changed"),
+    (lambda f: f["files"].update(blanked="other.png"), "other.png is not there")])
 def test_a_changed_record(measured, edit, words):
+    change(measured, edit)
+    refused(measured, words)
+
+
+@pytest.mark.parametrize("edit, words", [
+    (lambda f: f.pop("answer"), "it has no 'answer'"),
+    (lambda f: f.update(number="0"), "'number' is not"),
+    (lambda f: f.update(corners=[1, 2]), "'corners' is not four pairs"),
+    (lambda f: f.update(refined=5), "'refined' is not"),
+    (lambda f: f.update(spread_px=10 ** 400), "'spread_px' is not"),
+    (lambda f: f.update(warnings="none"), "'warnings' is not"),
+    (lambda f: f.update(read=True), "'read' is not"),
+    (lambda f: f.update(request=[]), "'request' is not"),
+    (lambda f: f["request"].update(grid=["01", "2"]), "'request' is not"),
+    (lambda f: f["request"].update(width=10 ** 9), "'request' is not"),
+    (lambda f: f["request"].update(stride=1), "'request' is not"),
+    (lambda f: f["request"].update(camera={"source": 1}), "'request' is not"),
+    (lambda f: f["answer"].update(corners=None), "'answer' is not"),
+    (lambda f: f["answer"]["corners"][0].__setitem__(0, 10 ** 400), "'answer' is not"),
+    (lambda f: f["files"].update(blanked="../find.png"), "'files' is not names of files beside it")])
+def test_a_record_of_another_shape(measured, edit, words):
     change(measured, edit)
     refused(measured, words)
 
