@@ -20,7 +20,7 @@ import numpy as np
 
 TEMPLATE = Path(__file__).with_name("report.html")
 PAGE = "index.html"
-SMALL = 400  # pixels of the picture that the page itself holds, enough for a sharp screen at half of that
+SMALL = 280  # pixels of the picture that the page itself holds: sharp on any screen, and 200 labels make a page of some 5 MB
 ANSWERED, DOUBTFUL, REFUSED, DAMAGED = "answered", "doubtful", "refused", "damaged"
 FILES = (("blanked", "copy"), ("sheet", "sheet"), ("overlay", "overlay"))
 SIDES = ("top", "right", "bottom", "left")

@@ -19,11 +19,11 @@ PANELS = {"one call of the refinement on the picture as it is": plain, "this too
 Cell = Tuple[int, float]
 
 
-def measured(repeats: int, modules=MODULES, blurs=BLURS, progress=iter) -> Dict[str, Dict[Cell, List[Result]]]:
+def measured(repeats: int, first: int = 0, modules=MODULES, blurs=BLURS, progress=iter) -> Dict[str, Dict[Cell, List[Result]]]:
     """The results of both panels for each size of a module and each blur in modules."""
     cells = {name: {} for name in PANELS}
     for module, blur in progress([(module, blur) for module in modules for blur in blurs]):
-        scenes = [scene(Case(21, 21 * module, blur * module, False, seed, tilt=5.0)) for seed in range(repeats)]
+        scenes = [scene(Case(21, 21 * module, blur * module, False, seed, tilt=5.0)) for seed in range(first, first + repeats)]
         for name, method in PANELS.items():
             cells[name][module, blur] = [judged(one, method(one, one.given)) for one in scenes]
     return cells

@@ -44,9 +44,12 @@ class Scene:
     given: np.ndarray
 
 
-def cases(repeats: int = 2) -> Iterator[Case]:
-    """All dims, sides, blurs, with and without a lens, each a few times with other angles, tilts, noises and places."""
-    for number, (dim, side, blur, lens, _) in enumerate(product(DIMS, SIDES, BLURS, (False, True), range(repeats))):
+def cases(repeats: int = 2, first: int = 0) -> Iterator[Case]:
+    """All dims, sides, blurs, with and without a lens, each a few times with other angles, tilts, noises and places.
+
+    Seeds count from the first: another first gives other labels of the same kinds.
+    """
+    for number, (dim, side, blur, lens, _) in enumerate(product(DIMS, SIDES, BLURS, (False, True), range(repeats)), first):
         if side / dim >= LEAST_MODULE:
             tilt = np.random.default_rng(number).uniform(0, MOST_TILT)
             yield Case(dim, side, blur, lens, number, round(float(tilt), 1), NOISES[number % len(NOISES)])
