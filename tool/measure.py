@@ -26,6 +26,9 @@ ROUGH_SEED = 20260         # the repeated runs begin at the same places each tim
 # labels: where label.edge_blur is below 0.07 module the farthest corner is off by 0.08 to 1.9 pixels at the median, 12 at most; from
 # 0.07 to 0.12 by 0.03 and 0.12; smoothed, by 0.02 and 0.09 in both. 0.01 is added to be safe.
 TOO_SHARP_MODULES = 0.08
+# The warning leaves that 0.01 out: under the refined corners the blur measures a hair less than under the rough ones, and what auto
+# left as it is must not be sent back to auto.
+SURELY_SHARP_MODULES = 0.07
 
 NOT_REPEATABLE = "Not repeatable: from rough corners moved by {moved} module the answer moves by {spread:.2f} pixel."
 REPEAT_REFUSED = "Not repeatable: from rough corners moved by {moved} module one of the runs is refused."
@@ -254,7 +257,7 @@ def _repeat_warnings(record: Record, refusals: int) -> list[str]:
 def _blur_warnings(picture: np.ndarray, request: Request, answer: Answer) -> list[str]:
     """What is to be said where the label is too sharp, or so blurred that its corners move, which no repeated run shows."""
     sharpness = label.edge_blur(picture, answer.corners, request.grid, request.camera)
-    if sharpness < TOO_SHARP_MODULES:
+    if sharpness < SURELY_SHARP_MODULES:
         return [SHARP.format(blur=sharpness)]
     blur = module_blur(picture, answer.corners, request.grid, request.camera)
     error = expected_error(blur) * request.module_px

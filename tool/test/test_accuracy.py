@@ -70,6 +70,14 @@ def test_a_label_too_blurred_is_marked_and_one_in_the_band_is_not(module):
         assert this_tool(made, made.given).marked == marked, blur
 
 
+@pytest.mark.parametrize("seed", [10000, 10001, 10002])
+def test_a_label_at_the_lower_edge_of_the_band_is_not_sent_back_to_auto(seed):
+    """Its blur measures 0.080 module under the rough corners, so it is left as it is, and 0.079 under the refined ones."""
+    made = scene(Case(21, 21 * 12, 0.07 * 12, False, seed, tilt=5))
+    found = this_tool(made, made.given)
+    assert not found.marked and judged(made, found).errors.max() < 0.1
+
+
 def test_the_blur_of_a_label_is_found_in_modules():
     made = [scene(Case(25, 25 * 10, blur * 10, True, 6)) for blur in (0.1, 0.25, 0.5)]
     found = [module_blur(one.picture, undistorted(one.camera, one.corners), one.grid, library_camera(one)) for one in made]
