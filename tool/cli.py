@@ -8,7 +8,7 @@ import sys
 from pathlib import Path
 
 import numpy as np
-from trufolmesca import LibraryMissing
+from trufolmesca import LibraryMissing, load_library
 
 from tool import Unanswered, reason
 from tool.camera import read_camera
@@ -162,6 +162,8 @@ def main(arguments: list[str] | None = None) -> int:
     except SystemExit as end:
         return BAD_USAGE if end.code else ANSWERED
     try:
+        if asked.command != "report":
+            load_library()  # said at once where it is missing, and not for each photograph
         return {"measure": _measure, "verify": _verify, "report": _report}[asked.command](asked)
     except (Unanswered, LibraryMissing) as why:
         print(f"trufolmesca: {why}", file=sys.stderr)

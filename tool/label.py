@@ -16,8 +16,14 @@ LEAST_MODULE_PX = 1.5    # below this no module can be told from its neighbour
 DECODER_OFFSET = 0.5     # the decoder counts from the corner of the first pixel, the library from its centre
 DECODER_SCALES = (1, 2, 0.5)  # of 244 rendered labels it found 243 as they were, and the last one enlarged
 MOST_ENLARGED_PX = 1 << 23
-PATTERN_AGREEMENT = 0.9  # of the finder and timing modules; a wrong dimension or order agrees to less than 0.8
-MOST_DISAGREEING = 0.05  # of a label's modules; a mirrored label differs in more than a quarter
+# Of 60 rendered labels the finder and timing modules agreed to 0.80 at most in another dimension, to 0.87 in another order of corners,
+# and wholly in the right ones, also with corners a quarter of a module off.
+PATTERN_AGREEMENT = 0.9
+MOST_DISAGREEING = 0.05  # of all modules; under mirrored or turned corners more than a fifth of them differed
+MARGIN_DEPTHS = (0.7, 1.0, 1.3, 1.7)  # modules outside of the label's edge
+MARGIN_RUN = 5           # modules along the edge of which the mean is taken, against noise
+MOST_MARGIN_OFF = 0.12   # of the contrast between the inks; from 0.16 on corners moved by more than 0.1 pixel
+MOST_DISTURBED = 0.1     # of a side's margin
 FAR_PX = 1 << 20         # beyond any picture
 CORRELATION_STEPS = 60
 FITTED_REACH = 1.0       # modules that the fit may move a decoder's corner: more, and it has found something else
@@ -225,6 +231,36 @@ def edge_blur(grey: np.ndarray, corners: np.ndarray, grid: np.ndarray, camera: C
         blurs.append((levels * (1 - levels)).mean(axis=1) * np.sqrt(np.pi))
     together = np.concatenate(blurs)
     return float(np.median(together)) if together.size else float("nan")
+
+
+def margin_disturbed(grey: np.ndarray, corners: np.ndarray, grid: np.ndarray, camera: Camera | None) -> float:
+    """The part of the margin, on its worst side, that is not as light as the light modules near it.
+
+    The refinement reads up to two modules outside of the label, and takes what it sees there for bare card.
+    """
+    dim = len(grid)
+    levels = module_levels(grey, corners, dim, camera)
+    light, dark = _local_level(levels, grid == 0, 1.0), _local_level(levels, grid == 1, 0.0)
+    along, ends = np.arange(dim) + 0.5, np.full(dim, 0.0)
+    sides = ((along, ends, 0, -1, light[0], dark[0]), (ends + dim, along, 1, 0, light[:, -1], dark[:, -1]),
+             (along, ends + dim, 0, 1, light[-1], dark[-1]), (ends, along, -1, 0, light[:, 0], dark[:, 0]))
+    map_, worst = module_map(corners, dim), 0.0
+    for x, y, out_x, out_y, bright, ink in sides:
+        points = np.stack([np.stack([x + depth * out_x, y + depth * out_y], axis=-1) for depth in MARGIN_DEPTHS])
+        strange = sample(grey, map_, camera, points).astype(np.float32) - bright
+        off = np.abs(cv2.blur(strange, (MARGIN_RUN, 1))) > MOST_MARGIN_OFF * np.abs(bright - ink)
+        worst = max(worst, float(off.mean()))
+    return worst
+
+
+def _local_level(levels: np.ndarray, chosen: np.ndarray, outside: float) -> np.ndarray:
+    """The level of the chosen modules around each module, which follows the light.
+
+    Those with neighbours of their kind count most: blur has mixed the others with the other ink.
+    """
+    alike = cv2.blur(np.pad(chosen.astype(np.float32), 1, constant_values=outside), (3, 3))[1:-1, 1:-1]
+    weights = (chosen * alike ** 6).astype(np.float32)
+    return cv2.GaussianBlur(levels.astype(np.float32) * weights, (0, 0), 2.5) / (cv2.GaussianBlur(weights, (0, 0), 2.5) + 1e-9)
 
 
 def runs_backwards(corners: np.ndarray) -> bool:

@@ -37,6 +37,8 @@ SHARP = ("The label is too sharp for its size (its edges are blurred by {blur:.3
          "Measure with --prepare auto.")
 BLURRED = ("The label is too blurred for its size (by {blur:.2f} module): the corners are off by some {error:.1f} pixel, "
            "although they repeat.")
+MARGIN = ("The label has no bare margin of two modules all around (a shadow, a cut edge or print lies there): the corners can be "
+          "wrong by more than they repeat to.")
 BACKWARDS = ("The corners go round against the clock: they were given in another order than top left, top right, "
              "bottom right, bottom left, or the photograph is mirrored.")
 
@@ -265,6 +267,8 @@ def _blur_warnings(picture: np.ndarray, request: Request, answer: Answer) -> lis
 def _shape_warnings(grey: np.ndarray, request: Request, answer: Answer) -> list[str]:
     """What is to be said where the grid is not what the picture shows under the refined corners."""
     warnings = [BACKWARDS] if label.runs_backwards(answer.corners) else []
+    if label.margin_disturbed(grey, answer.corners, request.grid, request.camera) > label.MOST_DISTURBED:
+        warnings.append(MARGIN)
     shown = label.read_grid_of(grey, answer.corners, len(request.grid), request.camera, request.inverted).grid
     differing = label.disagreement(request.grid, shown)
     if differing > MOST_DISAGREEING:

@@ -166,8 +166,8 @@ def test_a_missing_library_is_said(monkeypatch, tmp_path):
     other.write_text("no library")
     for path, words in ((tmp_path / "none.so", "is not there: run tools/setup"), (other, "cannot be used")):
         monkeypatch.setenv("TRUFOLMESCA_LIBRARY", str(path))
-        library_module.library.cache_clear()
+        library_module.load_library.cache_clear()
         with pytest.raises(LibraryMissing, match=words):
             trufolmesca.sqrt(2.0)
     monkeypatch.undo()
-    library_module.library.cache_clear()
+    library_module.load_library.cache_clear()

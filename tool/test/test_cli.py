@@ -1,6 +1,8 @@
 """The command line: what it takes, what it refuses, and its exit status; and tools/card's."""
 from __future__ import annotations
 
+import os
+import pty
 import subprocess
 from pathlib import Path
 
@@ -9,6 +11,11 @@ from conftest import a_photograph, encoded
 
 ROOT = Path(__file__).resolve().parents[2]
 ROUGH = (ROOT / "examples/label.rough").read_text().split()
+
+
+def run_alone(*words: object, **how) -> subprocess.CompletedProcess:
+    """The command in a process of its own."""
+    return subprocess.run([ROOT / "trufolmesca", *words], stdout=subprocess.PIPE, text=True, **how)
 
 
 @pytest.mark.parametrize("words", [("--help",), ("measure", "--help"), ("verify", "--help"), ("report", "--help")])
@@ -50,9 +57,27 @@ def test_corners_below_zero_with_an_exponent_are_numbers(archive):
 def test_the_command_itself(tmp_path):
     path = tmp_path / "find.png"
     path.write_bytes(encoded(a_photograph().picture, ".png"))
-    done = subprocess.run([ROOT / "trufolmesca", "measure", path, "--out", tmp_path / "out"], capture_output=True, text=True, cwd=tmp_path)
+    done = run_alone("measure", path, "--out", tmp_path / "out", stderr=subprocess.PIPE, cwd=tmp_path)
     assert done.returncode == 0 and "FIND 1234" in done.stdout and done.stderr == ""
-    assert subprocess.run([ROOT / "trufolmesca", "verify", tmp_path / "out"], capture_output=True).returncode == 0
+    assert run_alone("verify", tmp_path / "out").returncode == 0
+
+
+def test_a_missing_library_is_said_once(measured):
+    elsewhere = {**os.environ, "TRUFOLMESCA_LIBRARY": "/none/libtrufolmesca.so"}
+    for words in (("measure", measured.home / "find.png", "--out", measured.out), ("verify", measured.out)):
+        done = run_alone(*words, env=elsewhere, stderr=subprocess.PIPE)
+        assert done.returncode == 2 and done.stdout == ""
+        assert done.stderr == "trufolmesca: the library /none/libtrufolmesca.so is not there: run tools/setup\n"
+
+
+def test_a_bar_where_a_person_watches_many(measured):
+    screen, terminal = pty.openpty()
+    done = run_alone("measure", measured.home / "find.png", measured.home / "none.png", "--out", measured.out, "--jobs", "1", stderr=terminal)
+    os.close(terminal)
+    shown = os.read(screen, 1 << 16).decode()
+    os.close(screen)
+    assert done.returncode == 1 and "100%" in shown and "2/2" in shown
+    assert done.stdout.count("\n") == 1 and "none.png: refused" in done.stdout
 
 
 def test_names_of_any_bytes_and_texts_with_escapes(archive):

@@ -253,6 +253,14 @@ def test_the_overlay_shows_what_was_read_also_where_it_is_smaller(archive):
     assert orange[:900].sum() > 1000
 
 
+@pytest.mark.parametrize("background", [20.0, 150.0, 250.0])
+@pytest.mark.parametrize("quiet, said", [(0.5, True), (1.0, True), (2.0, False), (4.0, False)])
+def test_a_label_without_its_bare_margin_is_said(quiet, said, background):
+    made = render(Label("MARGIN", quiet=quiet), quad((180, 140), side=150, angle=8), SIZE, blur=1, noise=2, background=background)
+    record = refine_picture(made.picture, made.corners, made.grid)
+    assert record.number != 0 or any("no bare margin" in warning for warning in record.warnings) == said
+
+
 def test_a_label_too_blurred_is_said():
     made = a_photograph(blur=2.6)
     record = refine_picture(made.picture, made.corners, made.grid)
@@ -312,11 +320,13 @@ def test_the_grid_is_read_in_its_dimension(dim):
     assert pattern_agreement(made.grid) == 1.0 and (made.grid == fixed_patterns(dim)[1])[fixed_patterns(dim)[0]].all()
 
 
-def test_a_label_in_uneven_light_is_read(archive):
+@pytest.mark.parametrize("darkest", [0.25, 0.5])
+def test_a_label_in_uneven_light_is_read(archive, darkest):
     made = a_photograph(noise=0)
-    light = np.linspace(0.25, 1.0, SIZE[0])[None, :]
+    light = np.linspace(darkest, 1.0, SIZE[0])[None, :]
     record, = measure(archive.add("find.png", np.rint(made.picture * light).astype(np.uint8)))
     assert record.number == 0 and ["".join(map(str, row)) for row in made.grid] == record.request["grid"]
+    assert darkest < 0.5 or not any("margin" in warning for warning in record.warnings)
 
 
 def test_a_worker_that_dies_is_said_and_the_rest_goes_on(archive, monkeypatch):

@@ -12,7 +12,7 @@ bottom left.
 """
 from .geometry import (Line, fit_line_tls_weighted, intersect_lines, inverse, map_point,
                        quad_to_quad, scaled, sqrt, square_to_quad, then)
-from .library import LibraryMissing, library_path
+from .library import LibraryMissing, library_path, load_library
 from .numbers import WORDS, Number, Refused, word_of
 from .photograph import (Border, Camera, EdgePoint, Intrinsics, Lens, localize_edge_point,
                          localize_edge_point_mapped, rectified_to_source, sample_bilinear)
@@ -22,7 +22,7 @@ from .refinement import (Answer, Edge, Marked, refine_corners, refine_corners_ma
 __all__ = [
     "Answer", "Border", "Camera", "Edge", "EdgePoint", "Intrinsics", "Lens", "LibraryMissing",
     "Line", "Marked", "Number", "Refused", "WORDS", "fit_line_tls_weighted", "intersect_lines",
-    "inverse", "library_path", "localize_edge_point", "localize_edge_point_mapped", "map_point",
+    "inverse", "library_path", "load_library", "localize_edge_point", "localize_edge_point_mapped", "map_point",
     "quad_to_quad", "rectified_to_source", "refine_corners", "refine_corners_mapped",
     "refine_corners_mapped_marking", "refine_corners_marking", "sample_bilinear", "scaled", "sqrt",
     "square_to_quad", "then", "word_of",

@@ -50,7 +50,7 @@ def library_path() -> Path:
 
 
 @lru_cache(maxsize=None)
-def library() -> ctypes.CDLL:
+def load_library() -> ctypes.CDLL:
     """The shared object, loaded once, with its 17 functions declared."""
     path = library_path()
     if not path.is_file():
@@ -73,7 +73,7 @@ def call(name: str, *arguments: object) -> int | float | None:
             flat += [argument.ctypes.data, argument.size]
         else:
             flat.append(argument)
-    return getattr(library(), f"trufolmesca_{name}")(*flat)
+    return getattr(load_library(), f"trufolmesca_{name}")(*flat)
 
 
 def floats(values: object) -> np.ndarray:
