@@ -24,6 +24,9 @@ MARGIN_DEPTHS = (0.7, 1.0, 1.3, 1.7)  # modules outside of the label's edge
 MARGIN_RUN = 5           # modules along the edge of which the mean is taken, against noise
 MOST_MARGIN_OFF = 0.12   # of the contrast between the inks; from 0.16 on corners moved by more than 0.1 pixel
 MOST_DISTURBED = 0.1     # of a side's margin
+# Blur darkens the light modules, so that a bare margin looks too light beside them: of 120 labels with a whole margin 20 did,
+# all with edges blurred by 0.19 module or more, and none looked too dark.
+CLEAR_LIGHT_BLUR = 0.17
 FAR_PX = 1 << 20         # beyond any picture
 CORRELATION_STEPS = 60
 FITTED_REACH = 1.0       # modules that the fit may move a decoder's corner: more, and it has found something else
@@ -239,6 +242,7 @@ def margin_disturbed(grey: np.ndarray, corners: np.ndarray, grid: np.ndarray, ca
     The refinement reads up to two modules outside of the label, and takes what it sees there for bare card.
     """
     dim = len(grid)
+    lighter_counts = edge_blur(grey, corners, grid, camera) < CLEAR_LIGHT_BLUR
     levels = module_levels(grey, corners, dim, camera)
     light, dark = _local_level(levels, grid == 0, 1.0), _local_level(levels, grid == 1, 0.0)
     along, ends = np.arange(dim) + 0.5, np.full(dim, 0.0)
@@ -247,8 +251,9 @@ def margin_disturbed(grey: np.ndarray, corners: np.ndarray, grid: np.ndarray, ca
     map_, worst = module_map(corners, dim), 0.0
     for x, y, out_x, out_y, bright, ink in sides:
         points = np.stack([np.stack([x + depth * out_x, y + depth * out_y], axis=-1) for depth in MARGIN_DEPTHS])
-        strange = sample(grey, map_, camera, points).astype(np.float32) - bright
-        off = np.abs(cv2.blur(strange, (MARGIN_RUN, 1))) > MOST_MARGIN_OFF * np.abs(bright - ink)
+        strange = cv2.blur(sample(grey, map_, camera, points).astype(np.float32) - bright, (MARGIN_RUN, 1))
+        towards_ink = strange * np.sign(ink - bright)
+        off = (np.abs(towards_ink) if lighter_counts else towards_ink) > MOST_MARGIN_OFF * np.abs(bright - ink)
         worst = max(worst, float(off.mean()))
     return worst
 

@@ -26,6 +26,7 @@ from tool.pictures import overlay_of, png_of
 from tool.published import Differs, read_fields
 from tool.record import PICTURES, Record, json_bytes, write_whole
 
+FORMULA_STARTS = "=+-@\t\r"
 WORKER_BYTES = 3 << 29      # what the largest common photographs take, decoded twice in colour
 SUMMARY = ("name", "photo", "text", "number", "word", "x0", "y0", "x1", "y1", "x2", "y2", "x3", "y3", "refined",
            "spread_px", "repeatable", "module_px", "px_per_mm_top", "px_per_mm_right", "px_per_mm_bottom",
@@ -294,8 +295,13 @@ def _summary(directory: Path) -> str:
         try:
             table.writerow(_row(path.stem, read_fields(path)))
         except (Differs, KeyError, TypeError, ValueError):
-            table.writerow([path.stem, "", "", "", "this file is damaged, or not a record of this tool"])
+            table.writerow([_text(path.stem), "", "", "", "this file is damaged, or not a record of this tool"])
     return text.getvalue()
+
+
+def _text(value: str | None) -> str | None:
+    """A text that no spreadsheet takes for a formula: a label can say anything."""
+    return "'" + value if value and value[0] in FORMULA_STARTS else value
 
 
 def _row(name: str, record: dict) -> list:
@@ -303,7 +309,7 @@ def _row(name: str, record: dict) -> list:
     corners = [f"{value:.4f}" for corner in record["corners"] or [[None] * 2] * 4 for value in corner if value is not None]
     scales = [f"{value:.4f}" for value in record["px_per_mm"] or []]
     spread, module = record["spread_px"], record["module_px"]
-    return [name, record["photo"], record["text"], record["number"], record["word"], *(corners or [""] * 8),
+    return [_text(name), _text(record["photo"]), _text(record["text"]), record["number"], record["word"], *(corners or [""] * 8),
             "" if record["refined"] is None else sum(record["refined"]),
             "" if spread is None else f"{spread:.4f}",
             {True: "yes", False: "NOT REPEATABLE", None: ""}[record["repeatable"]],

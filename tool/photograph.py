@@ -18,6 +18,7 @@ from trufolmesca import Number, word_of
 from tool import LARGEST_SIDE, Unanswered, printable, reason
 
 AS_STORED = cv2.IMREAD_ANYDEPTH | cv2.IMREAD_ANYCOLOR  # turned as EXIF says, without alpha
+TIFF_STARTS = (b"II*\0", b"MM\0*", b"II+\0", b"MM\0+")
 JPEG_START = b"\xff\xd8\xff"
 GREY_SENTENCE = "Colour was turned to grey by OpenCV's weights, 0.299 red + 0.587 green + 0.114 blue."
 DEPTH_SENTENCE = "Samples of 16 bits were brought to 8 by dividing by 257 and rounding."
@@ -50,10 +51,26 @@ def read_photograph(path: Path) -> Photograph:
             stored, complaint = _decode(file, AS_STORED)
             conversions: list[str] = []
             grey = _on_white(file, stored, _one_channel(stored, conversions), conversions)
+            warnings = _warnings(complaint, _pages(file))
     except OSError as error:
         raise Unanswered(f"the file cannot be read: {reason(error)}") from None
-    warnings = (f"The file is damaged, and a part of the picture may be missing ({complaint}).",) if complaint else ()
     return Photograph(printable(path.name), sha256, _eight_bits(grey, conversions), tuple(conversions), warnings)
+
+
+def _warnings(complaint: str, pages: int) -> tuple[str, ...]:
+    """What is to be said of a file that is not one whole picture."""
+    damaged = f"The file is damaged, and a part of the picture may be missing ({complaint})."
+    several = f"The file holds {pages} pictures, of which the first was measured."
+    return tuple(sentence for sentence, said in ((damaged, complaint), (several, pages > 1)) if said)
+
+
+def _pages(file: BinaryIO) -> int:
+    """How many pictures a TIFF file holds; 1 of any other file."""
+    file.seek(0)
+    if file.read(4) not in TIFF_STARTS:
+        return 1
+    with _decoder_messages():
+        return cv2.imcount(f"/proc/self/fd/{file.fileno()}")
 
 
 def _decode(file: BinaryIO, flags: int) -> tuple[np.ndarray, str]:

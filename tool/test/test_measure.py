@@ -83,6 +83,12 @@ def test_the_summary_has_a_row_for_every_record(measured):
     assert rows[0]["number"] == "" and rows[0]["x0"] == "" and "no QR label" in rows[0]["word"]
 
 
+def test_no_text_of_a_label_is_a_formula_in_the_summary(archive):
+    assert archive.measure(archive.add("find.png", a_photograph("=1+1").picture)) == 0
+    row, = csv.DictReader((archive.out / "summary.csv").read_text().splitlines())
+    assert row["text"] == "'=1+1" and archive.record("find")["text"] == "=1+1"
+
+
 def test_one_line_for_each_photograph(measured):
     measured.measure(measured.home / "find.png", measured.home / "none.png", "--jobs", 1)
     first, second = measured.said.splitlines()
@@ -259,6 +265,12 @@ def test_a_label_without_its_bare_margin_is_said(quiet, said, background):
     made = render(Label("MARGIN", quiet=quiet), quad((180, 140), side=150, angle=8), SIZE, blur=1, noise=2, background=background)
     record = refine_picture(made.picture, made.corners, made.grid)
     assert record.number != 0 or any("no bare margin" in warning for warning in record.warnings) == said
+
+
+def test_blur_alone_takes_no_margin_away():
+    made = render(Label("MARGIN"), quad((60, 50), side=60, angle=8), (120, 100), blur=0.8, noise=2)
+    record = refine_picture(made.picture, made.corners, made.grid)
+    assert record.number == 0 and not any("margin" in warning for warning in record.warnings)
 
 
 def test_a_label_too_blurred_is_said():

@@ -33,6 +33,15 @@ def test_grey_is_taken_as_it_is(archive):
     assert (photograph.grey == made.picture).all() and photograph.conversions == () and photograph.name == "find.png"
 
 
+def test_of_several_pages_the_first_is_measured_and_that_is_said(archive):
+    made = a_photograph()
+    path = archive.home / "find.tif"
+    cv2.imwritemulti(str(path), [made.picture, np.full_like(made.picture, 200)])
+    record, = measure(path)
+    assert distance(record.corners, made.corners) < GOOD_PX
+    assert record.warnings == ["The file holds 2 pictures, of which the first was measured."]
+
+
 @pytest.mark.parametrize("suffix", [".png", ".tif"])
 def test_sixteen_bits_are_divided_by_257(archive, suffix):
     made = a_photograph()

@@ -5,6 +5,8 @@ ghost use Rattle.c_lists.specs.Lent.{viewOf};
 ghost use Rattle.c_answers.specs.Answers.{Written};
 ghost use Rattle.c_refine.specs.Calls.{lentRequest, WrittenMarked};
 
+// ---- on a photograph as it is
+
 // A label's corners on a photograph as it is: `c_refine::refine_corners` under its name for C.
 #[no_mangle]
 pub extern "C" fn trufolmesca_refine_corners(
@@ -81,6 +83,8 @@ pub extern "C" fn trufolmesca_refine_corners_marking(
         copy,
     )
 }
+
+// ---- through a camera
 
 // A label's corners through a camera: `c_refine::refine_corners_mapped` under its name for C.
 #[no_mangle]
@@ -166,3 +170,5 @@ pub extern "C" fn trufolmesca_refine_corners_mapped_marking(
         copy,
     )
 }
+
+// ---- end

@@ -224,3 +224,5 @@ pub extern "C" fn trufolmesca_sqrt(x: f64) -> f64
 {
     ieee_root::sqrt(x)
 }
+
+// ---- end
