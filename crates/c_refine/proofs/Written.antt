@@ -4,8 +4,8 @@ use Prim.Native.Nat.{ℕ}
 use mathlib.Core.List.{List}
 use lib.Ieee.{Float}
 use Rattle.corners.specs.declared.Answer.{Answer}
-use Rattle.refine.specs.declared.Request.{Request}
-use Rattle.refine.specs.Refine.{Photograph}
+use Rattle.request.specs.declared.Request.{Request}
+use Rattle.request.specs.Requests.{Photograph}
 use Rattle.marking.specs.Marking.{Marks}
 use Rattle.c_answers.specs.Answers.{Written}
 use Rattle.c_refine.specs.Calls.{WrittenMarked}

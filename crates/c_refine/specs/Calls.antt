@@ -7,8 +7,8 @@ use mathlib.Core.List.{List}
 use lib.Ieee.{Float}
 use Rattle.consts.specs.Consts.{defaults}
 use Rattle.footprint.specs.declared.View.{View}
-use Rattle.refine.specs.declared.Request.{Request}
-use Rattle.refine.specs.Refine.{Photograph}
+use Rattle.request.specs.declared.Request.{Request}
+use Rattle.request.specs.Requests.{Photograph}
 use Rattle.marking.specs.Marking.{refineMarking, sheetAfter, copyAfter}
 use Rattle.c_lists.specs.Lent.{workingOf}
 use Rattle.c_answers.specs.Answers.{Written}

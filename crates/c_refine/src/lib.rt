@@ -1,12 +1,13 @@
 // The refinement calls for C and Rust, each over the lists and buffers that it is lent: `export` hands every one on as it is.
 ghost use mathlib.Core.Path.{_≡_};
 ghost use Rattle.footprint.specs.declared.View.the-variants.{Plain};
-ghost use Rattle.refine.specs.Refine.{photograph, refine};
+ghost use Rattle.request.specs.Requests.{photograph};
+ghost use Rattle.refine.specs.Refine.{refine};
 ghost use Rattle.c_lists.specs.Lent.{viewOf};
 ghost use Rattle.c_answers.specs.Answers.{Written};
 ghost use Rattle.c_refine.specs.Calls.{lentRequest, WrittenMarked};
 use footprint::View;
-use refine::Request;
+use request::Request;
 
 // What is asked by what is lent.
 fn request_of(

@@ -6,8 +6,8 @@ use mathlib.Core.List.{List}
 use Rattle.number.specs.Numbers as number
 use Rattle.corners.specs.declared.Answer.{Answer}
 use Rattle.corners.specs.Corners.{refused}
-use Rattle.refine.specs.declared.Request.{Request}
-use Rattle.refine.specs.Refine.{photograph}
+use Rattle.request.specs.declared.Request.{Request}
+use Rattle.request.specs.Requests.{photograph}
 use Rattle.marking.specs.Marking.{Marks}
 use Rattle.job_card.specs.JobCard.{wellFormed, fieldPart}
 use Rattle.job.specs.Job.{requestOf, modulesOf, strideOf}

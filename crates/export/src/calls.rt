@@ -1,6 +1,7 @@
 // The refinement calls: each hands on what the one of its name in `c_refine` gives.
 ghost use Rattle.footprint.specs.declared.View.the-variants.{Plain};
-ghost use Rattle.refine.specs.Refine.{photograph, refine};
+ghost use Rattle.request.specs.Requests.{photograph};
+ghost use Rattle.refine.specs.Refine.{refine};
 ghost use Rattle.c_lists.specs.Lent.{viewOf};
 ghost use Rattle.c_answers.specs.Answers.{Written};
 ghost use Rattle.c_refine.specs.Calls.{lentRequest, WrittenMarked};

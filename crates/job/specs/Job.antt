@@ -13,8 +13,8 @@ use Rattle.camera.specs.declared.LensDistortion.{LensDistortion}
 use Rattle.camera.specs.declared.LensDistortion.the-variants.{None, BrownConrady}
 use Rattle.footprint.specs.declared.View.{View}
 use Rattle.footprint.specs.declared.View.the-variants.{Plain, Calibrated}
-use Rattle.refine.specs.declared.Request.{Request}
-use Rattle.refine.specs.Refine.{Photograph}
+use Rattle.request.specs.declared.Request.{Request}
+use Rattle.request.specs.Requests.{Photograph}
 use Rattle.fields.specs.Fields.{byteAt, numberAt, floatAt}
 use Rattle.job_card.specs.JobCard.{hasExactly, fieldPart}
 

@@ -23,7 +23,7 @@ use footprint::View;
 use job_card::has_exactly;
 use job_card::part;
 use pixel::WorkingPixel;
-use refine::Request;
+use request::Request;
 
 // What is behind the first byte of a slice; of an empty one nothing.
 fn behind_first<'a>(s: &'a [u8]) -> &'a [u8]

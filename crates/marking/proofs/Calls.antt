@@ -15,8 +15,9 @@ use Rattle.sample_tree.specs.Run.{Ran, ran, run, State, state, sampler, Runs}
 use Rattle.sample_tree.proofs.Meaning.{run-cleared}
 use Rattle.corners.specs.declared.Answer.{Answer}
 use Rattle.corners.specs.Corners.{refused}
-use Rattle.refine.specs.declared.Request.{Request}
-use Rattle.refine.specs.Refine.{Photograph, sceneOf, shown, refinement, result, readsOf}
+use Rattle.request.specs.declared.Request.{Request}
+use Rattle.request.specs.Requests.{Photograph, sceneOf, shown}
+use Rattle.refine.specs.Refine.{refinement, result, readsOf}
 use Rattle.marking.specs.Marking.{markingEntry, markingNumber, refineMarking, sheetAfter, copyAfter, Marks, RunsMarked}
 
 -- behind the entry checks: sheet and copy are cleared, and the step runs

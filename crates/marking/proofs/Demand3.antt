@@ -24,11 +24,12 @@ use Rattle.sample_tree.proofs.Sheets.{each-read, sheet-at, copy-at, length-shee
 use Rattle.sample_tree.proofs.Demand3 as oneSample
 use Rattle.corners.specs.declared.Answer.{Answer}
 use Rattle.rounds.specs.Rounds.{rounds}
-use Rattle.refine.specs.declared.Request.{Request}
-use Rattle.refine.specs.Refine.{Photograph, sourceCorners, planOf, sceneOf, shown, entry, refinement, result, readsOf}
+use Rattle.request.specs.declared.Request.{Request}
+use Rattle.request.specs.Requests.{Photograph, sourceCorners, sceneOf, shown, entry}
+use Rattle.refine.specs.Refine.{planOf, refinement, result, readsOf}
 use Rattle.marking.specs.Marking.{area, markingEntry, markingNumber, refineMarking, sheetAfter, copyAfter}
 use Rattle.marking.specs.Demand3.{Call, readsIn, at, SameMarks, AgreesWhereMarked, OverTheCopy, Demand3}
-use Rattle.refine.proofs.Checks.{photograph-passes, other-photograph}
+use Rattle.request.proofs.Checks.{photograph-passes, other-photograph}
 use Rattle.marking.proofs.Entered.{entered, enters-marking}
 
 -- ---- lists

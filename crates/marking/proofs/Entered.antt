@@ -10,8 +10,8 @@ use Rattle.prelude.specs.Checks.{check}
 use Rattle.prelude.proofs.Tests.{both}
 use Rattle.prelude.specs.Prelude.{if_then_else_}
 use Rattle.number.specs.Numbers as number
-use Rattle.refine.specs.declared.Request.{Request}
-use Rattle.refine.specs.Refine.{Photograph, entryChecks, entry}
+use Rattle.request.specs.declared.Request.{Request}
+use Rattle.request.specs.Requests.{Photograph, entryChecks, entry}
 use Rattle.marking.specs.Marking.{area, markingEntry}
 
 -- ---- check 7

@@ -13,8 +13,9 @@ use Rattle.number.specs.Numbers as number
 use Rattle.photograph.specs.Photographs.{Pixel}
 use Rattle.sample_tree.specs.Sheets.{isRead}
 use Rattle.corners.specs.declared.Answer.{Answer}
-use Rattle.refine.specs.declared.Request.{Request}
-use Rattle.refine.specs.Refine.{Photograph, cells, shown, readsOf}
+use Rattle.request.specs.declared.Request.{Request}
+use Rattle.request.specs.Requests.{Photograph, cells, shown}
+use Rattle.refine.specs.Refine.{readsOf}
 use Rattle.marking.specs.Marking.{area, markingEntry, Marks}
 
 -- The request and its label's modules are what all calls share: width, height, rough corners, scales, grid, polarity, camera and settings.

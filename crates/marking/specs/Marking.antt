@@ -16,8 +16,9 @@ use Rattle.sample_tree.specs.SampleTree.{SampleTree, value, reads}
 use Rattle.sample_tree.specs.Sheets as Sheets
 use Rattle.corners.specs.declared.Answer.{Answer}
 use Rattle.corners.specs.Corners.{refused}
-use Rattle.refine.specs.declared.Request.{Request}
-use Rattle.refine.specs.Refine.{Photograph, entryChecks, shown, result, readsOf}
+use Rattle.request.specs.declared.Request.{Request}
+use Rattle.request.specs.Requests.{Photograph, entryChecks, shown}
+use Rattle.refine.specs.Refine.{result, readsOf}
 
 -- the bytes of the sheet, and of the copy, that a run writes
 abbrev pub area : Request → ℕ

@@ -1,9 +1,10 @@
 // The marking calls: a refinement that also writes which pixels it read, and a copy of the photograph with all others blanked.
 ghost use Rattle.photograph.specs.Photographs.{photo};
-ghost use Rattle.refine.specs.Refine.{photograph, plain, refinement, sceneOf};
+ghost use Rattle.request.specs.Requests.{photograph, plain, sceneOf};
+ghost use Rattle.refine.specs.Refine.{refinement};
 ghost use Rattle.marking.specs.Marking.{Marks, Ready, RunsMarked};
 use corners::Answer;
-use refine::Request;
+use request::Request;
 
 mod sheets; // sheets.rt: clearing a sheet or a copy
 
@@ -35,11 +36,11 @@ pub fn refine_corners_mapped_marking(
     ensures { λ r. ⌜ Marks request (now (modules .entry)) (photograph (now (bytes .entry)) stride) r
         (now (sheet .entry)) (now (sheet .exit)) (now (copy .entry)) (now (copy .exit)) ⌝ }
 {
-    let refusal = refine::entry_number(bytes, stride, modules, request);
+    let refusal = request::entry_number(bytes, stride, modules, request);
     if refusal != number::ANSWER {
         return corners::refused(refusal);
     }
-    let area = refine::area(request.width, request.height);
+    let area = request::area(request.width, request.height);
     if sheet.len() < area {
         return corners::refused(number::SHEET);
     }
@@ -63,7 +64,7 @@ fn marking_run(
         (refinement request (now (modules .entry))) r
         (now (sheet .entry)) (now (sheet .exit)) (now (copy .entry)) (now (copy .exit)) ⌝ }
 {
-    let area = refine::area(request.width, request.height);
+    let area = request::area(request.width, request.height);
     sheets::clear(sheet, area);
     sheets::clear(copy, area);
     let run = refine::refine_entered(bytes, stride, modules, request, sheet, copy);

@@ -15,8 +15,9 @@ use Rattle.pixel.proofs.Values.{Fits, source-fits}
 use Rattle.sample_tree.proofs.Always.{always-value}
 use Rattle.grid.proofs.Counts.{probeLimit}
 use Rattle.rounds.proofs.Answers.{Sound, refused-sound, rounds-sound}
-use Rattle.refine.specs.declared.Request.{Request}
-use Rattle.refine.specs.Refine.{Photograph, cells, entry, planOf, sceneOf, shown, sourceCorners, refinement, result, refine}
+use Rattle.request.specs.declared.Request.{Request}
+use Rattle.request.specs.Requests.{Photograph, cells, entry, sceneOf, shown, sourceCorners}
+use Rattle.refine.specs.Refine.{planOf, refinement, result, refine}
 
 sources-fit : (sx sy : Float) (cs : List WorkingPixel) → length cs ≡ 4 → Four Fits (map (toSource sx sy) cs)
 sources-fit sx sy cs four = record { four = length-map cs (toSource sx sy) ∙ four; each = each-made Fits (toSource sx sy) cs (source-fits sx sy) }

@@ -17,8 +17,9 @@ use Rattle.edge.specs.declared.Task.{Task}
 use Rattle.corners.specs.declared.Answer.{Answer}
 use Rattle.corners.specs.Corners.{refused}
 use Rattle.rounds.specs.Rounds.{rounds}
-use Rattle.refine.specs.declared.Request.{Request}
-use Rattle.refine.specs.Refine.{Photograph, cells, sceneOf, shown, sourceCorners, taskOf, entry, refinement, result, refine}
+use Rattle.request.specs.declared.Request.{Request}
+use Rattle.request.specs.Requests.{Photograph, cells, sceneOf, shown, sourceCorners, entry}
+use Rattle.refine.specs.Refine.{taskOf, refinement, result, refine}
 
 -- no more are taken than there are
 take-min : (n : ℕ) (xs : List ℕ) → take (min n (length xs)) xs ≡ take n xs

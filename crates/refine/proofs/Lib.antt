@@ -1,7 +1,4 @@
 -- What belongs to no one function of `refine`.
-pub mod Worked
-pub mod Checks
-pub mod Corners
 pub mod Calls
 pub mod Answers
 -- the definitions opened together

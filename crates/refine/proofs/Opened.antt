@@ -1,6 +1,6 @@
 -- The definitions of `refine`, opened together: a proof that computes with them unfolds this one name. Assumes nothing.
-use Rattle.refine.specs.Refine.{sourceCorners, goodScale, withinBounds, allWithinBounds, entry, refinement, result, readsOf, refine}
+use Rattle.refine.specs.Refine.{refinement, result, readsOf, refine}
 
 unfoldable pub opened : Unit {0}
-unfolding sourceCorners goodScale withinBounds allWithinBounds entry refinement result readsOf refine
+unfolding refinement result readsOf refine
 opened = tt

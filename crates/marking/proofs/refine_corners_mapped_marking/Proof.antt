@@ -3,7 +3,7 @@ use mathlib.Core.Path.{_≡_, sym, _∙_}
 use native.Mathlib.Omega.{arith}
 use borrow.Author.Needs.{needs}
 use Rattle.number.specs.Numbers as number
-use Rattle.refine.proofs.Checks.{photograph-passes}
+use Rattle.request.proofs.Checks.{photograph-passes}
 use Rattle.marking.proofs.Entered.{enters-marking, refused-before, short-sheet, short-copy}
 use Rattle.marking.proofs.Calls.{refuses, answers}
 use Rattle.marking.proofs.refine_corners_mapped_marking.Statement.{statement}
