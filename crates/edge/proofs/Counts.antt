@@ -16,8 +16,8 @@ use Rattle.grid.specs.declared.Probe.{Probe}
 use Rattle.grid.specs.Grids.{gridOf}
 use Rattle.grid.specs.Probes.{probesOf}
 use Rattle.grid.proofs.Counts.{probeLimit, few-probes}
-use Rattle.edge.specs.declared.Plan.{Plan}
-use Rattle.edge.specs.declared.Side.{Side}
+use Rattle.probe.specs.declared.Plan.{Plan}
+use Rattle.probe.specs.declared.Side.{Side}
 use Rattle.edge.specs.Edge.{probed, plus, points, fitted, edgeLength, edge}
 
 -- a point more at most

@@ -16,10 +16,11 @@ use Rattle.fit.specs.Fit.{fitEdge}
 use Rattle.fit.specs.declared.EdgeFit.{EdgeFit}
 use Rattle.peak.specs.declared.Located.{Located}
 use Rattle.grid.specs.declared.Probe.{Probe}
-use Rattle.edge.specs.declared.Plan.{Plan}
-use Rattle.edge.specs.declared.Side.{Side}
-use Rattle.edge.specs.declared.ProbeRay.{ProbeRay}
-use Rattle.edge.specs.Edge.{probeRay, localizeProbe, probed, plus, points, fitted}
+use Rattle.probe.specs.declared.Plan.{Plan}
+use Rattle.probe.specs.declared.Side.{Side}
+use Rattle.probe.specs.declared.ProbeRay.{ProbeRay}
+use Rattle.probe.specs.Probe.{probeRay}
+use Rattle.edge.specs.Edge.{localizeProbe, probed, plus, points, fitted}
 use Rattle.edge.specs.Store.{storedTo}
 use Rattle.edge.proofs.Stores.{stored-all}
 

@@ -7,29 +7,21 @@ ghost use Rattle.consts.specs.Consts.{maxEdgePoints};
 ghost use Rattle.photograph.specs.Photographs.{photo};
 ghost use Rattle.sample_tree.specs.Run.{state, sampler, Runs};
 ghost use Rattle.grid.specs.Probes.{held};
-ghost use Rattle.edge.specs.Edge.{pointOnSide, probeRay, localizeProbe, points, fitted, edgeLength, edge as edgeOf};
+ghost use Rattle.edge.specs.Edge.{localizeProbe, points, fitted, edgeLength, edge as edgeOf};
 ghost use Rattle.edge.specs.Store.{storedTo, Adds, Room, Holds};
 use consts::MAX_EDGE_POINTS;
 use consts::Settings;
 use fit::EdgeFit;
 use fit::EdgeStat;
 use footprint::Scene;
-use grid::Probe;
 use grid::Probes;
-use homography::PerspectiveTransform;
 use peak::Located;
-use pixel::Direction;
 use pixel::SourcePixel;
+use probe::Plan;
+use probe::ProbeRay;
+use probe::Side;
 use profile::Localized;
-use profile::Ray;
 use sample_tree::Meter;
-
-// What a refinement goes by: the settings, and the label's side in modules and its polarity.
-pub struct Plan {
-    pub settings: Settings,
-    pub dim: u32,
-    pub inverted: bool,
-}
 
 // What all of a run shares: how its photograph lies and is seen, and the plan.
 pub struct Task {
@@ -50,21 +42,6 @@ struct Found {
     meter: Meter,
 }
 
-// One side of the label in a round: the round's map, which edge it is (0 top, 1 right, 2 bottom, 3 left), and the
-// corners that it joins.
-pub struct Side {
-    pub map: PerspectiveTransform,
-    pub edge: u32,
-    pub from: SourcePixel,
-    pub to: SourcePixel,
-}
-
-// Where a probe looks: the length of its local module, and the ray there.
-pub struct ProbeRay {
-    pub perp_module_px: f64,
-    pub ray: Ray,
-}
-
 // A side with the probes that are to find its points.
 struct Search {
     task: Task,
@@ -73,48 +50,6 @@ struct Search {
 }
 
 // ---- a probe's point
-
-// A point of the unit square, t along an edge, 0 top, 1 right, 2 bottom, else left: at the top and the
-// left `near` from the side, at the other two `far` from the opposite one.
-fn point_on_side(edge: u32, near: f64, far: f64, t: f64) -> SourcePixel
-    ensures { λ r. ⌜ r ≡ pointOnSide edge near far t ⌝ }
-{
-    match edge {
-        0 => SourcePixel(t, near),
-        1 => SourcePixel(far, t),
-        2 => SourcePixel(t, far),
-        _ => SourcePixel(near, t),
-    }
-}
-
-// Where a probe looks. From the point one module further in to the boundary goes outwards; that length is the
-// local module, and half of it the step.
-fn probe_ray(plan: Plan, side: Side, probe: Probe) -> ProbeRay
-    ensures { λ r. ⌜ r ≡ probeRay plan side probe ⌝ }
-{
-    let map = side.map;
-    let inv_dim = 1.0 / plan.dim as f64;
-    let b = point_on_side(side.edge, 0.0, 1.0, probe.t);
-    let i = point_on_side(side.edge, inv_dim, 1.0 - inv_dim, probe.t);
-    let coarse = map.map(b.0, b.1);
-    let inner = map.map(i.0, i.1);
-    let ox = coarse.0 - inner.0;
-    let oy = coarse.1 - inner.1;
-    let perp_module_px = ieee_root::sqrt(ox * ox + oy * oy);
-    ProbeRay {
-        perp_module_px,
-        ray: Ray {
-            coarse,
-            normal: Direction {
-                x: ox / perp_module_px,
-                y: oy / perp_module_px,
-            },
-            step: 0.5 * perp_module_px,
-            inverted: plan.inverted,
-            inward_differs: probe.inward_differs,
-        },
-    }
-}
 
 // The point of a probe. Too short a module ends it unread.
 fn localize_probe(
@@ -190,7 +125,7 @@ fn find_points(
     let mut found = Found { count: 0, meter };
     let mut i: usize = 0;
     while i < n {
-        let aim = probe_ray(plan, side, list[i]);
+        let aim = probe::probe_ray(plan, side, list[i]);
         let run = localize_probe(
             settings,
             bytes,

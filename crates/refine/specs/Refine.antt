@@ -10,7 +10,7 @@ use Rattle.photograph.specs.Photographs.{Pixel}
 use Rattle.sample_tree.specs.SampleTree.{SampleTree, value, reads}
 use Rattle.request.specs.declared.Request.{Request}
 use Rattle.request.specs.Requests.{Photograph, cells, entry, sceneOf, shown, sourceCorners}
-use Rattle.edge.specs.declared.Plan.{Plan}
+use Rattle.probe.specs.declared.Plan.{Plan}
 use Rattle.edge.specs.declared.Task.{Task}
 use Rattle.corners.specs.declared.Answer.{Answer}
 use Rattle.corners.specs.Corners.{refused}

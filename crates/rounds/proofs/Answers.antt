@@ -25,7 +25,7 @@ use Rattle.fit.specs.declared.EdgeFit.{EdgeFit}
 use Rattle.fit.proofs.Counts.{Counted, none-counted, EdgeCounted, stopped, counted, counted-line}
 use Rattle.sample_tree.proofs.Always.{Always, ends, always-bind}
 use Rattle.grid.proofs.Counts.{probeLimit}
-use Rattle.edge.specs.declared.Plan.{Plan}
+use Rattle.probe.specs.declared.Plan.{Plan}
 use Rattle.edge.proofs.Counts.{edge-counted}
 use Rattle.corners.specs.declared.Answer.{Answer}
 use Rattle.corners.specs.declared.Edges.{Edges}

@@ -15,8 +15,8 @@ use Rattle.sample_tree.specs.SampleTree.{SampleTree, done}
 use Rattle.sample_tree.specs.Run.{Sampler, Runs}
 use Rattle.sample_tree.proofs.Steps.{Leads, start, then as and-then, called, end}
 use Rattle.fit.specs.declared.EdgeFit.{EdgeFit}
-use Rattle.edge.specs.declared.Plan.{Plan}
-use Rattle.edge.specs.declared.Side.{Side}
+use Rattle.probe.specs.declared.Plan.{Plan}
+use Rattle.probe.specs.declared.Side.{Side}
 use Rattle.edge.specs.Edge.{edge}
 use Rattle.corners.specs.declared.Edges.{Edges}
 use Rattle.corners.specs.Corners.{noEdges, withEdge}

@@ -17,7 +17,7 @@ use Rattle.homography.specs.Homography.{squareToQuad}
 use Rattle.sample_tree.specs.SampleTree.{SampleTree, done}
 use Rattle.sample_tree.specs.Run.{Sampler, Runs}
 use Rattle.sample_tree.proofs.Steps.{Leads, start, then as and-then, called, end, ended}
-use Rattle.edge.specs.declared.Plan.{Plan}
+use Rattle.probe.specs.declared.Plan.{Plan}
 use Rattle.corners.specs.declared.Answer.{Answer}
 use Rattle.corners.specs.declared.Edges.{Edges}
 use Rattle.corners.specs.Corners.{refused, noEdges, roundEnd}

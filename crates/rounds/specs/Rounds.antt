@@ -13,8 +13,8 @@ use Rattle.homography.specs.declared.Mapped.{Mapped}
 use Rattle.homography.specs.declared.Mapped.the-variants.{By, NoMap}
 use Rattle.homography.specs.Homography.{squareToQuad}
 use Rattle.sample_tree.specs.SampleTree.{SampleTree, done, _>>=_}
-use Rattle.edge.specs.declared.Plan.{Plan}
-use Rattle.edge.specs.declared.Side.{Side}
+use Rattle.probe.specs.declared.Plan.{Plan}
+use Rattle.probe.specs.declared.Side.{Side}
 use Rattle.edge.specs.Edge.{edge}
 use Rattle.corners.specs.declared.Answer.{Answer}
 use Rattle.corners.specs.declared.Edges.{Edges}

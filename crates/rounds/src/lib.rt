@@ -7,11 +7,11 @@ ghost use Rattle.corners.specs.Corners.{noEdges};
 ghost use Rattle.rounds.specs.Rounds.{edgesFrom, remainingRounds, isWeak, round, rounds, sideOf};
 use corners::Answer;
 use corners::Edges;
-use edge::Side;
 use edge::Task;
 use homography::Mapped;
 use homography::PerspectiveTransform;
 use pixel::SourcePixel;
+use probe::Side;
 use sample_tree::Meter;
 
 // The edges of a round, and what sampling carries along.

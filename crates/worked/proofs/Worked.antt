@@ -22,6 +22,7 @@ use Rattle.fit.proofs.Opened as Fit
 use Rattle.peak.proofs.Opened as Peak
 use Rattle.profile.proofs.Opened as Profile
 use Rattle.grid.proofs.Opened as Grids
+use Rattle.probe.proofs.Opened as Probe
 use Rattle.edge.proofs.Opened as Edge
 use Rattle.corners.proofs.Opened as Corners
 use Rattle.rounds.proofs.Opened as Rounds
@@ -185,5 +186,5 @@ grey-photograph = record { bytes = replicate 16 128; stride = 4 }
 pub grey-is-thin : T (eqb (refine grey (1 ∷ 1 ∷ 1 ∷ 1 ∷ []) grey-photograph .number) 9)
 unfolding grey grey-photograph at
     Ieee.opened Root.opened Pixel.opened Photograph.opened Footprint.opened Sampling.opened SampleTree.opened Homography.opened Line.opened Fit.opened
-    Peak.opened Profile.opened Grids.opened Edge.opened Corners.opened Rounds.opened Requests.opened Refine.opened
+    Peak.opened Profile.opened Grids.opened Probe.opened Edge.opened Corners.opened Rounds.opened Requests.opened Refine.opened
 grey-is-thin = tt

@@ -1,8 +1,8 @@
--- `edge::probe_ray` meets its contract, by those of what it calls. Assumes nothing.
-use Rattle.edge.specs.Edge.{probeRay}
+-- `probe::probe_ray` meets its contract, by those of what it calls. Assumes nothing.
+use Rattle.probe.specs.Probe.{probeRay}
 use borrow.Author.Needs.{needs}
-use Rattle.edge.proofs.probe_ray.Statement.{statement}
-use Rattle.edge.proofs.probe_ray.Tie as tie
+use Rattle.probe.proofs.probe_ray.Statement.{statement}
+use Rattle.probe.proofs.probe_ray.Tie as tie
 
 int-to-float-inv-dim : tie.Need-int-to-float-inv-dim
 int-to-float-inv-dim c = search needs

@@ -1,8 +1,8 @@
--- `edge::pointOnSide` meets its contract: each arm is the definition's point for its edge. Assumes nothing.
+-- `probe::pointOnSide` meets its contract: each arm is the definition's point for its edge. Assumes nothing.
 use borrow.Author.Tests.{ne-eqb}
-use Rattle.edge.specs.Edge.{pointOnSide}
-use Rattle.edge.proofs.point_on_side.Statement.{statement}
-use Rattle.edge.proofs.point_on_side.Tie as tie
+use Rattle.probe.specs.Probe.{pointOnSide}
+use Rattle.probe.proofs.point_on_side.Statement.{statement}
+use Rattle.probe.proofs.point_on_side.Tie as tie
 
 returns : tie.Need-returns
 unfolding pointOnSide
