@@ -5,11 +5,15 @@
    trufolmesca_word says a number in words. These three are C of this header; all other calls are
    functions of the library, each proved to do what its comment says.
 
-   Calling it: a call needs less than 10 KB of stack, takes no memory, keeps no state and is
-   reentrant, so threads may call it at once on buffers of their own. A bool is exactly 0 or 1. The
-   photograph, the sheet and the copy are never one buffer, nor do a buffer and another list of the
-   same call overlap. The processor's rounding mode, flush-to-zero and denormals-are-zero are as a
-   program starts with them: to nearest, off and off.
+   Calling it: a call needs less than 10 KB (10,240 bytes) of stack, takes no memory, keeps no state
+   and is reentrant, so threads may call it at once on buffers of their own. A bool is exactly 0 or
+   1. The photograph, the sheet and the copy are never one buffer, nor do a buffer and another list
+   of the same call overlap. The processor's rounding mode, flush-to-zero and denormals-are-zero are
+   as a program starts with them: to nearest, off and off.
+
+   Where a program binds lazily, its dynamic linker works on the same stack when memcpy or memset is
+   first called: with the static library and a stack that is scarce, link by `-z now`, as
+   libtrufolmesca.so is linked.
 
    A list goes as pointer and length, and an answer into buffers that the caller lends. A call that
    refuses returns its number and writes zeros to places, counts, value, point, map or line; 0 is an
