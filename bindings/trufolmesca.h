@@ -1,9 +1,9 @@
-/* Trufolmesca: the corners of a QR label on a photograph, to a fraction of a pixel, and the pixels that
-   they rest on. Link libtrufolmesca.a or libtrufolmesca.so, which `make` builds; x86-64 Linux.
+/* Trufolmesca: the corners of a QR label on a photograph to a fraction of a pixel, and the pixels
+   that they rest on. Link libtrufolmesca.a or libtrufolmesca.so, which `make` builds; x86-64 Linux.
 
-   struct trufolmesca_request and the two calls over it, at the end, are the short way;
-   trufolmesca_word says a number in words. These three are C of this header; all other calls are
-   functions of the library, each proved to do what its comment says.
+   The short way is a struct trufolmesca_request and the two calls over it, at the end;
+   trufolmesca_word says a number in words. These are C of this header. The 17 calls before them are
+   the library's, each proved to meet its contract.
 
    Calling it: a call needs less than 10 KB (10,240 bytes) of stack, takes no memory, keeps no state
    and is reentrant, so threads may call it at once on buffers of their own. A bool is exactly 0 or
@@ -11,9 +11,9 @@
    of the same call overlap. The processor's rounding mode, flush-to-zero and denormals-are-zero are
    as a program starts with them: to nearest, off and off.
 
-   Where a program binds lazily, its dynamic linker works on the same stack when memcpy or memset is
-   first called: with the static library and a stack that is scarce, link by `-z now`, as
-   libtrufolmesca.so is linked.
+   A call over a request needs up to 1 KB more. Where a program binds lazily, its dynamic linker
+   works on the same stack when memcpy or memset is first called: with the static library and a
+   stack that is scarce, link by `-z now`, as libtrufolmesca.so is linked.
 
    A list goes as pointer and length, and an answer into buffers that the caller lends. A call that
    refuses returns its number and writes zeros to places, counts, value, point, map or line; 0 is an
@@ -102,9 +102,9 @@ enum {
     TRUFOLMESCA_PLACE = 20
 };
 
-/* What compilers of GNU's kind are told of a call: that its number is not to be left unread, and
-   that no pointer is null. They warn of a null pointer that they see; nothing looks for one when the
-   call is made. They may also take a pointer for not null because it is passed, and drop a test that
+/* What GCC and Clang are told of a call: that its number is not to be left unread, and that no
+   pointer is null. They warn of a null pointer that they see; nothing looks for one when the call
+   is made. They may also take a pointer for not null because it is passed, and drop a test that
    comes after the call: test what malloc gave before the call, and make none where it is null. */
 #ifdef __GNUC__
 #define TRUFOLMESCA_CALL __attribute__((warn_unused_result, nonnull))
@@ -324,7 +324,7 @@ static inline void trufolmesca_camera_list(const struct trufolmesca_camera *came
     list[12] = camera->k3;
 }
 
-/* The lists of a request; those of a null pointer are empty, and without a camera its list is left. */
+/* The lists of a request: of a null pointer an empty one, and without a camera none is written. */
 static inline void trufolmesca_lists_of(const struct trufolmesca_request *request, struct trufolmesca_lists *lists) {
     static const uint8_t none = 0;
     const struct trufolmesca_photograph photograph = request->photograph;
@@ -357,23 +357,23 @@ static inline void trufolmesca_answer_of(
     }
 }
 
+/* The arguments by which all four refinement calls begin. */
+#define TRUFOLMESCA_ASKED \
+    l.bytes, l.bytes_len, request->photograph.width, request->photograph.height, request->photograph.stride, l.modules, \
+        l.modules_len, request->label.dim, request->sx, request->sy, l.corners, 8, request->inverted
+
 /* trufolmesca_refine_corners, or with a camera trufolmesca_refine_corners_mapped, over a request. A
    null pointer in it is an empty list: 2 or 3. */
 TRUFOLMESCA_OVER_REQUEST static inline uint32_t trufolmesca_refine(
     const struct trufolmesca_request *request, struct trufolmesca_answer *answer) {
-    const struct trufolmesca_photograph p = request->photograph;
     struct trufolmesca_lists l;
     double places[8];
     uint32_t counts[20], number;
     trufolmesca_lists_of(request, &l);
     if (request->camera)
-        number = trufolmesca_refine_corners_mapped(
-            l.bytes, l.bytes_len, p.width, p.height, p.stride, l.modules, l.modules_len, request->label.dim,
-            request->sx, request->sy, l.corners, 8, request->inverted, l.camera, 13, l.lens, places, 8, counts, 20);
+        number = trufolmesca_refine_corners_mapped(TRUFOLMESCA_ASKED, l.camera, 13, l.lens, places, 8, counts, 20);
     else
-        number = trufolmesca_refine_corners(
-            l.bytes, l.bytes_len, p.width, p.height, p.stride, l.modules, l.modules_len, request->label.dim,
-            request->sx, request->sy, l.corners, 8, request->inverted, places, 8, counts, 20);
+        number = trufolmesca_refine_corners(TRUFOLMESCA_ASKED, places, 8, counts, 20);
     trufolmesca_answer_of(places, counts, answer);
     return number;
 }
@@ -383,7 +383,6 @@ TRUFOLMESCA_OVER_REQUEST static inline uint32_t trufolmesca_refine(
 TRUFOLMESCA_OVER_REQUEST static inline uint32_t trufolmesca_refine_marking(
     const struct trufolmesca_request *request, struct trufolmesca_answer *answer,
     uint8_t *sheet, size_t sheet_len, uint8_t *copy, size_t copy_len) {
-    const struct trufolmesca_photograph p = request->photograph;
     struct trufolmesca_lists l;
     uint8_t no_sheet = 0, no_copy = 0;
     uint8_t *s = sheet ? sheet : &no_sheet, *c = copy ? copy : &no_copy;
@@ -393,13 +392,9 @@ TRUFOLMESCA_OVER_REQUEST static inline uint32_t trufolmesca_refine_marking(
     trufolmesca_lists_of(request, &l);
     if (request->camera)
         number = trufolmesca_refine_corners_mapped_marking(
-            l.bytes, l.bytes_len, p.width, p.height, p.stride, l.modules, l.modules_len, request->label.dim,
-            request->sx, request->sy, l.corners, 8, request->inverted, l.camera, 13, l.lens, places, 8, counts, 20,
-            s, s_len, c, c_len);
+            TRUFOLMESCA_ASKED, l.camera, 13, l.lens, places, 8, counts, 20, s, s_len, c, c_len);
     else
-        number = trufolmesca_refine_corners_marking(
-            l.bytes, l.bytes_len, p.width, p.height, p.stride, l.modules, l.modules_len, request->label.dim,
-            request->sx, request->sy, l.corners, 8, request->inverted, places, 8, counts, 20, s, s_len, c, c_len);
+        number = trufolmesca_refine_corners_marking(TRUFOLMESCA_ASKED, places, 8, counts, 20, s, s_len, c, c_len);
     trufolmesca_answer_of(places, counts, answer);
     return number;
 }
@@ -411,5 +406,6 @@ TRUFOLMESCA_OVER_REQUEST static inline uint32_t trufolmesca_refine_marking(
 #undef TRUFOLMESCA_CALL
 #undef TRUFOLMESCA_WRITING
 #undef TRUFOLMESCA_OVER_REQUEST
+#undef TRUFOLMESCA_ASKED
 
 #endif

@@ -39,28 +39,25 @@ static void read_request(char **paths) {
     request.sx = request.sy = 1.0;
 }
 
+#define ASKED \
+    p.bytes, p.bytes_len, p.width, p.height, p.stride, modules, DIM * DIM, DIM, request.sx, request.sy, q, 8, request.inverted
+#define CAMERA camera_list, 13, request.camera->lens
+#define ANSWER o->places, 8, o->counts, 20
+#define MARKS o->sheet, AREA, o->copy, AREA
+
 /* The library's own call for the request. */
 static void run_long(struct outcome *o, bool marking) {
     const struct trufolmesca_photograph p = request.photograph;
     double q[8];
     for (int i = 0; i < 8; ++i) q[i] = i % 2 ? request.corners[i / 2].y : request.corners[i / 2].x;
-    const bool lens = request.camera && request.camera->lens;
     if (marking && request.camera)
-        o->number = trufolmesca_refine_corners_mapped_marking(
-            p.bytes, p.bytes_len, p.width, p.height, p.stride, modules, DIM * DIM, DIM, request.sx, request.sy, q, 8, request.inverted,
-            camera_list, 13, lens, o->places, 8, o->counts, 20, o->sheet, AREA, o->copy, AREA);
+        o->number = trufolmesca_refine_corners_mapped_marking(ASKED, CAMERA, ANSWER, MARKS);
     else if (marking)
-        o->number = trufolmesca_refine_corners_marking(
-            p.bytes, p.bytes_len, p.width, p.height, p.stride, modules, DIM * DIM, DIM, request.sx, request.sy, q, 8, request.inverted,
-            o->places, 8, o->counts, 20, o->sheet, AREA, o->copy, AREA);
+        o->number = trufolmesca_refine_corners_marking(ASKED, ANSWER, MARKS);
     else if (request.camera)
-        o->number = trufolmesca_refine_corners_mapped(
-            p.bytes, p.bytes_len, p.width, p.height, p.stride, modules, DIM * DIM, DIM, request.sx, request.sy, q, 8, request.inverted,
-            camera_list, 13, lens, o->places, 8, o->counts, 20);
+        o->number = trufolmesca_refine_corners_mapped(ASKED, CAMERA, ANSWER);
     else
-        o->number = trufolmesca_refine_corners(
-            p.bytes, p.bytes_len, p.width, p.height, p.stride, modules, DIM * DIM, DIM, request.sx, request.sy, q, 8, request.inverted,
-            o->places, 8, o->counts, 20);
+        o->number = trufolmesca_refine_corners(ASKED, ANSWER);
 }
 
 /* The call over the request, its answer put as the library's own calls put it. */

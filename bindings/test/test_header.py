@@ -15,7 +15,7 @@ each_compiler = pytest.mark.parametrize(("compiler", "language", "standard"), LA
 USING_ALL = """
 #include "trufolmesca.h"
 #include "trufolmesca.h"
-#if defined TRUFOLMESCA_CALL || defined TRUFOLMESCA_WRITING || defined TRUFOLMESCA_OVER_REQUEST
+#if defined TRUFOLMESCA_CALL || defined TRUFOLMESCA_WRITING || defined TRUFOLMESCA_OVER_REQUEST || defined TRUFOLMESCA_ASKED
 #error a macro of the header is left behind
 #endif
 int main(void) {
