@@ -10,6 +10,8 @@ import pytest
 HERE = Path(__file__).resolve().parent / "boundary"
 FLAGS = ["-O2", "-std=c11", "-D_GNU_SOURCE", "-pthread", "-Wall", "-Wextra", "-Wpedantic", "-Wconversion", "-Werror"]
 STACK = 10 * 1024  # bytes that the header promises to suffice
+LISTS = {"BYTES": "bytes", "MODULES": "modules", "FIRST": "the first list", "SECOND": "the second list", "THIRD": "the third list",
+         "VALUES": "values", "COUNTS": "counts", "SHEET": "the sheet", "COPY": "the copy"}
 JOBS = 300_000  # each is two calls: lists at the front and at the back of their pages
 
 
@@ -83,7 +85,7 @@ def test_ten_kilobytes_of_stack_suffice(boundary):
     done = ran(boundary, "stack", 3, 30_000)
     assert done.returncode == 0, done.stdout
     used = stack_of(done.stdout)
-    assert len(used) == 17 and max(used.values()) == used["refine_corners_mapped_marking"] <= STACK
+    assert len(used) == 17 and max(used.values()) <= STACK
 
 
 def test_ten_kilobytes_suffice_for_the_shared_object(home, objects, library):
@@ -96,32 +98,43 @@ def test_ten_kilobytes_suffice_for_the_shared_object(home, objects, library):
 
 @pytest.fixture(scope="module")
 def faulty(home, objects, archive, root):
-    """The harness over a library into which a fault of this name was put."""
-    def build(fault: str) -> Path:
-        planted = compile_one(HERE / "planted.c", home / f"{fault}.o", root, f"-DPLANTED={fault}")
-        return link(home / fault, *objects, planted, "-Wl,--wrap=make_call", archive)
+    """The harness over a library into which a fault of this name was put, in this list."""
+    def build(fault: str, where: str) -> Path:
+        name = f"{fault}_{where}"
+        planted = compile_one(HERE / "planted.c", home / f"{name}.o", root, f"-DPLANTED={fault}", f"-DIN={where}")
+        return link(home / name, *objects, planted, "-Wl,--wrap=make_call", archive)
     return build
 
 
-@pytest.mark.parametrize(("fault", "mode", "status", "said"), [
-    ("READS_BEHIND", "calls", 3, r"FAULT, at byte (\d+) of .*, which has \1\n"),
-    ("READS_BEFORE", "calls", 3, r"FAULT, at byte -1 of "),
-    ("WRITES_BEHIND", "calls", 1, "WRONG: the values are not written as the header says"),
-    ("WRITES_A_LIST", "calls", 1, "WRONG: a list that is read was changed"),
-    ("MARKS_A_REFUSAL", "calls", 1, "WRONG: the sheet was written where it must stay"),
-    ("LEAVES_OUT", "calls", 1, "WRONG: the values are not written as the header says"),
-    ("GOES_BY_ADDRESS", "calls", 1, "WRONG: the answer depends on where the lists lie"),
-    ("NEEDS_STACK", "stack", 3, "FAULT\n"),
-    ("KEEPS_STATE", "threads", 1, "WRONG: "),
+@pytest.mark.parametrize("where", LISTS)
+def test_a_byte_too_far_is_found_in_every_list(faulty, where):
+    behind = ran(faulty("READS_BEHIND", where), "calls", 1, 300)
+    assert behind.returncode == 3 and re.match(rf"FAULT, at byte (\d+) of {LISTS[where]}, which has \1\n", behind.stdout)
+    before = ran(faulty("READS_BEFORE", where), "calls", 1, 300)
+    assert before.returncode == 3 and before.stdout.startswith(f"FAULT, at byte -1 of {LISTS[where]}, which has ")
+
+
+@pytest.mark.parametrize(("fault", "where", "mode", "status", "said"), [
+    ("WRITES_BEHIND_VALUES", "VALUES", "calls", 1, "WRONG: the values are not written as the header says"),
+    ("WRITES_A_LIST", "BYTES", "calls", 1, "WRONG: a list that is read was changed"),
+    ("WRITES_A_LIST", "THIRD", "calls", 1, "WRONG: a list that is read was changed"),
+    ("MARKS_A_REFUSAL", "SHEET", "calls", 1, "WRONG: the sheet was written where it must stay"),
+    ("MARKS_A_REFUSAL", "COPY", "calls", 1, "WRONG: the copy was written where it must stay"),
+    ("LEAVES_OUT", "VALUES", "calls", 1, "WRONG: the values are not written as the header says"),
+    ("LEAVES_OUT", "COUNTS", "calls", 1, "WRONG: the counts are not written as the header says"),
+    ("LEAVES_OUT", "SHEET", "calls", 1, "WRONG: "),
+    ("GOES_BY_ADDRESS", "VALUES", "calls", 1, "WRONG: the answer depends on where the lists lie"),
+    ("NEEDS_STACK", "VALUES", "stack", 3, "FAULT\n"),
+    ("KEEPS_STATE", "VALUES", "threads", 1, "WRONG: "),
 ])
-def test_a_planted_fault_is_found(faulty, fault, mode, status, said):
-    done = ran(faulty(fault), mode, 1, 3000)
-    assert done.returncode == status, done.stdout
-    assert re.search(said, done.stdout) and "\ntrufolmesca_" in done.stdout
+def test_a_planted_fault_is_found(faulty, fault, where, mode, status, said):
+    done = ran(faulty(fault, where), mode, 1, 3000)
+    assert done.returncode == status and said in done.stdout, done.stdout
+    assert "\ntrufolmesca_" in done.stdout
 
 
 def test_the_call_that_failed_can_be_made_again(faulty):
-    program = faulty("MARKS_A_REFUSAL")
+    program = faulty("MARKS_A_REFUSAL", "SHEET")
     first = ran(program, "calls", 5, 3000).stdout
     again = re.search(r"^again: boundary (again \d+ \d+)$", first, re.M)
     assert ran(program, *again[1].split()).stdout == first
