@@ -119,7 +119,7 @@ enum {
 /* ---- the library's calls */
 
 /* A label's corners, refined on the photograph. The corners are in working pixels, of which there
-   are sx and sy for each source pixel. 1 to 6, then 8, 9 or an edge's number. */
+   are sx and sy for each source pixel. 1 to 5, then 8, 9, and of an edge's line 10 or 11. */
 TRUFOLMESCA_CALL uint32_t trufolmesca_refine_corners(
     const uint8_t *bytes, size_t bytes_len, uint32_t width, uint32_t height, uint32_t stride,
     const uint8_t *modules, size_t modules_len, uint32_t dim, double sx, double sy,
@@ -127,7 +127,7 @@ TRUFOLMESCA_CALL uint32_t trufolmesca_refine_corners(
     double *places, size_t places_len, uint32_t *counts, size_t counts_len);
 
 /* The same, seen through a camera: sx and sy are working pixels for each rectified pixel, and the
-   places are in rectified pixels. */
+   places are in rectified pixels. Also 6, behind 1 to 5. */
 TRUFOLMESCA_CALL uint32_t trufolmesca_refine_corners_mapped(
     const uint8_t *bytes, size_t bytes_len, uint32_t width, uint32_t height, uint32_t stride,
     const uint8_t *modules, size_t modules_len, uint32_t dim, double sx, double sy,
@@ -191,7 +191,7 @@ TRUFOLMESCA_CALL uint32_t trufolmesca_intersect_lines(
     const double *a, size_t a_len, const double *b, size_t b_len, double *place, size_t place_len);
 
 /* An edge point along a normal, on the photograph as it is or through a camera, and then place and
-   normal are in rectified pixels. 1, 2, 6, 19. */
+   normal are in rectified pixels. 1, 2, with a camera 6, 19. */
 TRUFOLMESCA_CALL uint32_t trufolmesca_localize_edge_point(
     const uint8_t *bytes, size_t bytes_len, uint32_t width, uint32_t height, uint32_t stride,
     double coarse_x, double coarse_y, double normal_x, double normal_y, double step, bool inverted, bool inward_differs,
