@@ -89,7 +89,7 @@ def test_ten_kilobytes_of_stack_suffice(boundary):
 
 
 def test_ten_kilobytes_suffice_for_the_shared_object(home, objects, library):
-    """Also at the first call: memcpy and memset are bound when it is loaded, and not in the depth of a call, where it ended with this seed."""
+    """Also at the first call, which faults with this seed where memcpy and memset are bound in its depth and not at loading."""
     program = link(home / "boundary_shared", *objects, library, f"-Wl,-rpath,{library.parent}")
     done = ran(program, "stack", 1, 6000)
     assert done.returncode == 0, done.stdout

@@ -40,7 +40,7 @@ static double of_exponent(struct random *r, uint32_t exponent) {
 
 /* A float at a limit of the calls, or beside it. */
 static double limit(struct random *r) {
-    static const double limits[] = {1048576.0, 16384.0, 16383.0, 65535.0, 0.5, 1.0, 1e-9, 1e-6, 0x1p-52, 4294967296.0, 0x1p53, 0x1p63, 0x1p64};
+    static const double limits[] = {0x1p20, 16384.0, 16383.0, 65535.0, 0.5, 1.0, 1e-9, 1e-6, 0x1p-52, 0x1p32, 0x1p53, 0x1p63, 0x1p64};
     double x = limits[below(r, sizeof limits / sizeof *limits)];
     uint32_t side = below(r, 3);
     return side == 0 ? x : nextafter(x, side == 1 ? INFINITY : -INFINITY);
