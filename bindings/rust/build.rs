@@ -63,13 +63,18 @@ fn pkg_config(words: &[&str]) -> Option<String> {
     Some(String::from_utf8_lossy(&said.stdout).trim().to_owned())
 }
 
-/// The folder of the installed library, of the version that this crate is written for.
+/// The versions of the library that this crate is written for: first, and first that is not.
+fn versions() -> (String, String) {
+    let number =
+        |name: &str| env::var(name).ok().and_then(|text| text.parse::<u32>().ok()).unwrap_or_default();
+    let (major, minor) = (number("CARGO_PKG_VERSION_MAJOR"), number("CARGO_PKG_VERSION_MINOR"));
+    (format!("{major}.{minor}"), format!("{major}.{}", minor + 1))
+}
+
+/// The folder of the installed library.
 fn installed() -> Option<PathBuf> {
-    let number = |name: &str| env::var(name).ok()?.parse::<u32>().ok();
-    let (major, minor) = (number("CARGO_PKG_VERSION_MAJOR")?, number("CARGO_PKG_VERSION_MINOR")?);
-    let from = format!("trufolmesca >= {major}.{minor}");
-    let below = format!("trufolmesca < {major}.{}", minor + 1);
-    pkg_config(&["--exists", &from, &below])?;
+    let (first, end) = versions();
+    pkg_config(&["--exists", &format!("trufolmesca >= {first}"), &format!("trufolmesca < {end}")])?;
     pkg_config(&["--variable=libdir", "trufolmesca"]).map(PathBuf::from)
 }
 
@@ -90,9 +95,11 @@ fn library(kind: Kind) -> Result<Library, String> {
         return demanded(&folder, kind, "pkg-config");
     }
     built(kind).ok_or_else(|| {
-        "the library is not there: install it (make install), build it (make), or name the folder of \
-         libtrufolmesca.a by TRUFOLMESCA_LIB_DIR"
-            .into()
+        format!(
+            "the library, version {}, is not there: install it (make install), build it (make), or name the \
+             folder of libtrufolmesca.a by TRUFOLMESCA_LIB_DIR",
+            versions().0
+        )
     })
 }
 

@@ -21,7 +21,7 @@ RUST_TYPES = {
 }
 
 PACKAGED = {
-    ".cargo_vcs_info.json", "Cargo.lock", "Cargo.toml", "Cargo.toml.orig", "LICENSE", "README.md", "build.rs",
+    ".cargo_vcs_info.json", "Cargo.lock", "Cargo.toml", "Cargo.toml.orig", "LICENSE", "NOTICE", "README.md", "build.rs",
     "src/ffi.rs", "src/geometry.rs", "src/lib.rs", "src/numbers.rs", "src/photograph.rs", "src/raw.rs", "src/refinement.rs",
     "src/wrong_uses.rs", "tests/calls.rs", "tests/drawn/mod.rs", "tests/threads.rs",
 }
@@ -171,6 +171,12 @@ def outside(unpacked) -> Path:
     return place
 
 
+def describe(place: Path, version: str) -> None:
+    """Writes what pkg-config says of a library in the folder lib of a place."""
+    lines = f"libdir={place}/lib", "Name: trufolmesca", "Description: corners", f"Version: {version}"
+    (place / "trufolmesca.pc").write_text("\n".join(lines) + "\n")
+
+
 def demand_words(program: Path, **environment: str) -> None:
     """Runs the outside program, which prints every number in words and ends with a refusal."""
     done = subprocess.run([program], env=os.environ | environment, capture_output=True, text=True)
@@ -181,8 +187,7 @@ def demand_words(program: Path, **environment: str) -> None:
 def test_a_program_outside_links_the_installed_library(cargo, archive, version, outside, tmp_path):
     (tmp_path / "lib").mkdir()
     shutil.copy(archive, tmp_path / "lib/libtrufolmesca.a")
-    described = f"libdir={tmp_path}/lib\nName: trufolmesca\nDescription: corners\nVersion: {version}\nLibs: -L${{libdir}} -ltrufolmesca\n"
-    (tmp_path / "trufolmesca.pc").write_text(described)
+    describe(tmp_path, version)
     target = outside / "target"
     passed(cargo("build", at=outside, TRUFOLMESCA_LIB_DIR=None, PKG_CONFIG_PATH=str(tmp_path), CARGO_TARGET_DIR=str(target)))
     demand_words(target / "debug/outside")
@@ -198,8 +203,15 @@ def test_a_program_outside_links_the_shared_object(cargo, root, outside, tmp_pat
 NONE = {"TRUFOLMESCA_LIB_DIR": None, "PKG_CONFIG_LIBDIR": "/nowhere", "PKG_CONFIG_PATH": None}
 
 
+def test_an_installed_library_of_another_version_is_not_linked(cargo, outside, tmp_path):
+    describe(tmp_path, "0.2.0")
+    changes = NONE | {"PKG_CONFIG_LIBDIR": str(tmp_path), "CARGO_TARGET_DIR": str(outside / "target")}
+    done = cargo("check", at=outside, **changes)
+    assert done.returncode != 0 and "the library, version 0.1, is not there" in done.stderr
+
+
 @pytest.mark.parametrize("changes, sentence", [
-    (NONE, "the library is not there: install it"),
+    (NONE, "the library, version 0.1, is not there: install it"),
     ({"TRUFOLMESCA_LIB_DIR": "/nowhere"}, "TRUFOLMESCA_LIB_DIR names /nowhere, which has no libtrufolmesca.a"),
     ({"TRUFOLMESCA_LIB_DIR": "/nowhere", "TRUFOLMESCA_LINK": "shared"}, "/nowhere, which has no libtrufolmesca.so"),
     ({"TRUFOLMESCA_LINK": "dynamic"}, "TRUFOLMESCA_LINK is neither static nor shared"),
