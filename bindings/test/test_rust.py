@@ -203,15 +203,15 @@ def test_a_program_outside_links_the_shared_object(cargo, root, outside, tmp_pat
 NONE = {"TRUFOLMESCA_LIB_DIR": None, "PKG_CONFIG_LIBDIR": "/nowhere", "PKG_CONFIG_PATH": None}
 
 
-def test_an_installed_library_of_another_version_is_not_linked(cargo, outside, tmp_path):
-    describe(tmp_path, "0.2.0")
+def test_an_installed_library_of_another_version_is_not_linked(cargo, version, outside, tmp_path):
+    describe(tmp_path, "99.0.0")
     changes = NONE | {"PKG_CONFIG_LIBDIR": str(tmp_path), "CARGO_TARGET_DIR": str(outside / "target")}
     done = cargo("check", at=outside, **changes)
-    assert done.returncode != 0 and "the library, version 0.1, is not there" in done.stderr
+    assert done.returncode != 0 and f"the library, version {version.rpartition('.')[0]}, is not there" in done.stderr
 
 
 @pytest.mark.parametrize("changes, sentence", [
-    (NONE, "the library, version 0.1, is not there: install it"),
+    (NONE, "is not there: install it (make install), build it (make), or name"),
     ({"TRUFOLMESCA_LIB_DIR": "/nowhere"}, "TRUFOLMESCA_LIB_DIR names /nowhere, which has no libtrufolmesca.a"),
     ({"TRUFOLMESCA_LIB_DIR": "/nowhere", "TRUFOLMESCA_LINK": "shared"}, "/nowhere, which has no libtrufolmesca.so"),
     ({"TRUFOLMESCA_LINK": "dynamic"}, "TRUFOLMESCA_LINK is neither static nor shared"),
