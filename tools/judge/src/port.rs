@@ -1,18 +1,8 @@
-//! The port, through the bindings that other programs use. `None` where there is no port to call.
+//! The port, through the crate that other programs use. `None` where there is no port to call.
 use crate::job::{Camera, Job};
 use crate::oracle::Outcome;
-
-#[path = "../../../bindings/trufolmesca.rs"]
-mod trufolmesca;
-
-/// The same bindings with the names of the archive before, as tools/judge/build writes them.
-#[cfg(before)]
-#[path = "../../../target/judge/before/trufolmesca.rs"]
-#[allow(dead_code)] // its leaf calls
-mod trufolmesca_before;
-// Without that archive nothing calls them.
-#[cfg(not(before))]
-use trufolmesca as trufolmesca_before;
+use trufolmesca::raw::{self, Written};
+use trufolmesca::{Line, Map};
 
 pub use trufolmesca::{Aim, Border, Photograph};
 
@@ -20,31 +10,36 @@ pub use trufolmesca::{Aim, Border, Photograph};
 /// bindings have types of their own, so the text is a macro's.
 macro_rules! refinement {
     ($bindings:ident, $archive:ident) => {
+        fn intrinsics([fx, fy, cx, cy]: [f64; 4]) -> $bindings::Intrinsics {
+            $bindings::Intrinsics { fx, fy, cx, cy }
+        }
+
         fn camera(c: &Camera) -> $bindings::Camera {
-            $bindings::Camera { source: c.source, rectified: c.rectified, lens: c.lens }
+            let lens = c.lens.map(|[k1, k2, p1, p2, k3]| $bindings::Lens { k1, k2, p1, p2, k3 });
+            $bindings::Camera { source: intrinsics(c.source), rectified: intrinsics(c.rectified), lens }
         }
 
-        fn photograph(job: &Job) -> $bindings::Photograph<'_> {
-            $bindings::Photograph { bytes: &job.bytes, width: job.width, height: job.height, stride: job.stride }
+        fn request(job: &Job) -> $bindings::Request<'_> {
+            let photograph = $bindings::Photograph { bytes: &job.bytes, width: job.width, height: job.height, stride: job.stride };
+            let mut request = $bindings::Request::new(photograph, $bindings::Grid::new(&job.modules, job.dim), job.corners);
+            request.scale = [job.sx, job.sy];
+            request.inverted = job.inverted;
+            request.camera = job.camera.as_ref().map(camera);
+            request
         }
 
-        fn grid(job: &Job) -> $bindings::Grid<'_> {
-            $bindings::Grid { modules: &job.modules, dim: job.dim }
+        fn answered(job: &Job) -> $bindings::raw::Written<$bindings::Answer> {
+            $bindings::raw::refine_corners(&request(job))
         }
 
-        fn answered(job: &Job) -> $bindings::Answer {
-            let (p, scale, camera) = (photograph(job), [job.sx, job.sy], job.camera.as_ref().map(camera));
-            $bindings::refine_corners(p, grid(job), scale, &job.corners, job.inverted, camera.as_ref())
+        fn answered_marking(job: &Job, sheet: &mut [u8], copy: &mut [u8]) -> $bindings::raw::Written<$bindings::Answer> {
+            $bindings::raw::refine_corners_marking(&request(job), sheet, copy)
         }
 
-        fn answered_marking(job: &Job, sheet: &mut [u8], copy: &mut [u8]) -> $bindings::Answer {
-            let (p, scale, camera) = (photograph(job), [job.sx, job.sy], job.camera.as_ref().map(camera));
-            $bindings::refine_corners_marking(p, grid(job), scale, &job.corners, job.inverted, camera.as_ref(), sheet, copy)
-        }
-
-        fn outcome(a: &$bindings::Answer) -> Outcome {
+        fn outcome(w: &$bindings::raw::Written<$bindings::Answer>) -> Outcome {
+            let a = &w.values;
             Outcome {
-                number: a.number,
+                number: w.number,
                 corners: a.corners,
                 counts: a.edges.map(|e| [e.probed, e.fit, e.dropped]),
                 valid: a.edges.map(|e| e.valid),
@@ -80,7 +75,7 @@ refinement!(trufolmesca, port);
 
 /// The port as it was before, from an archive of its own.
 pub mod before {
-    use super::{trufolmesca_before, Camera, Job, Outcome};
+    use super::{Camera, Job, Outcome};
 
     refinement!(trufolmesca_before, before);
 }
@@ -88,48 +83,57 @@ pub mod before {
 /// A leaf call's number and values.
 pub type Leaf<const N: usize> = Option<(u32, [f64; N])>;
 
+/// A call that can be refused, where the port is linked.
+fn leaf<const N: usize>(call: impl FnOnce() -> Written<[f64; N]>) -> Leaf<N> {
+    cfg!(port).then(call).map(|w| (w.number, w.values))
+}
+
+fn line([x, y, dx, dy]: [f64; 4]) -> Line {
+    Line { centroid: [x, y], direction: [dx, dy] }
+}
+
 pub fn sample_bilinear(p: Photograph, x: f64, y: f64, border: Border) -> Leaf<1> {
-    cfg!(port).then(|| trufolmesca::sample_bilinear(p, x, y, border))
+    leaf(|| raw::sample_bilinear(&p, [x, y], border))
 }
 
 pub fn rectified_to_source(c: &Camera, x: f64, y: f64) -> Leaf<2> {
-    cfg!(port).then(|| trufolmesca::rectified_to_source(&camera(c), x, y))
+    leaf(|| raw::rectified_to_source(&camera(c), [x, y]))
 }
 
 pub fn square_to_quad(q: &[[f64; 2]; 4]) -> Leaf<9> {
-    cfg!(port).then(|| trufolmesca::square_to_quad(q))
+    leaf(|| raw::square_to_quad(q))
 }
 
 pub fn quad_to_quad(a: &[[f64; 2]; 4], b: &[[f64; 2]; 4]) -> Leaf<9> {
-    cfg!(port).then(|| trufolmesca::quad_to_quad(a, b))
+    leaf(|| raw::quad_to_quad(a, b))
 }
 
 pub fn map(m: &[f64; 9], u: f64, v: f64) -> Leaf<2> {
-    cfg!(port).then(|| (0, trufolmesca::map(m, u, v)))
+    cfg!(port).then(|| (0, Map(*m).map([u, v])))
 }
 
 pub fn scaled(sx: f64, sy: f64) -> Leaf<9> {
-    cfg!(port).then(|| (0, trufolmesca::scaled(sx, sy)))
+    cfg!(port).then(|| (0, Map::scaled(sx, sy).0))
 }
 
 pub fn inverse(m: &[f64; 9]) -> Leaf<9> {
-    cfg!(port).then(|| (0, trufolmesca::inverse(m)))
+    cfg!(port).then(|| (0, Map(*m).inverse().0))
 }
 
 pub fn then(inner: &[f64; 9], outer: &[f64; 9]) -> Leaf<9> {
-    cfg!(port).then(|| (0, trufolmesca::then(inner, outer)))
+    cfg!(port).then(|| (0, Map(*inner).then(&Map(*outer)).0))
 }
 
 pub fn fit_line(xs: &[f64], ys: &[f64], ws: &[f64]) -> Leaf<4> {
-    cfg!(port).then(|| trufolmesca::fit_line_tls_weighted(xs, ys, ws))
+    leaf(|| raw::fit_line_tls_weighted(xs, ys, ws))
 }
 
 pub fn intersect_lines(a: &[f64; 4], b: &[f64; 4]) -> Leaf<2> {
-    cfg!(port).then(|| trufolmesca::intersect_lines(a, b))
+    leaf(|| raw::intersect_lines(&line(*a), &line(*b)))
 }
 
 pub fn localize(p: Photograph, c: Option<&Camera>, a: &Aim) -> Leaf<3> {
-    cfg!(port).then(|| trufolmesca::localize_edge_point(p, c.map(camera).as_ref(), a))
+    leaf(|| raw::localize_edge_point(&p, c.map(camera).as_ref(), a))
 }
 
 pub fn sqrt(x: f64) -> Leaf<1> {
