@@ -8,7 +8,7 @@ import struct
 
 import numpy as np
 import pytest
-from conftest import GOOD_PX, SIZE, a_photograph, distance, encoded, two_labels
+from rendered import GOOD_PX, SIZE, a_photograph, distance, encoded, two_labels
 
 from tool import many
 from tool.label import PATTERN_AGREEMENT, decode, edge_blur, fixed_patterns, pattern_agreement, read_grid, text_of
@@ -296,7 +296,7 @@ def test_refine_picture_needs_no_file():
     made = a_photograph()
     record = refine_picture(made.picture, moved(made.corners, 0.25), made.grid)
     assert record.number == 0 and distance(record.corners, made.corners) < GOOD_PX
-    assert record.copy.shape == record.sheet.shape == made.picture.shape
+    assert record.marks.copy.shape == record.marks.sheet.shape == made.picture.shape
     assert refine_picture(made.picture, made.corners, made.grid, sigma=0.8).prepare["sigma_px"] == 0.8
     inverted = a_photograph(inverted=True)
     assert distance(refine_picture(inverted.picture, inverted.corners, inverted.grid, inverted=True).corners, inverted.corners) < GOOD_PX

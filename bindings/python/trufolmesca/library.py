@@ -5,10 +5,12 @@ import ctypes
 import os
 from functools import lru_cache
 from pathlib import Path
+from typing import Any
 
 import numpy as np
 
-_DEFAULT = Path(__file__).resolve().parents[3] / "target" / "tool" / "libtrufolmesca.so"
+SONAME = "libtrufolmesca.so.0"
+_BESIDE = Path(__file__).resolve().with_name(SONAME)
 
 _U32, _F64, _BOOL, _U8 = ctypes.c_uint32, ctypes.c_double, ctypes.c_bool, ctypes.c_uint8
 _LIST = [ctypes.c_void_p, ctypes.c_size_t]
@@ -19,7 +21,7 @@ _PROFILE = [_F64, _F64, _F64, _F64, _F64, _BOOL, _BOOL]
 _ANSWER = [*_LIST, *_LIST]
 _MARKS = [*_LIST, *_LIST]
 
-_SIGNATURES = {
+SIGNATURES: dict[str, tuple[Any, list[Any]]] = {
     "refine_corners": (_U32, [*_PHOTOGRAPH, *_LABEL, *_ANSWER]),
     "refine_corners_mapped": (_U32, [*_PHOTOGRAPH, *_LABEL, *_CAMERA, *_ANSWER]),
     "refine_corners_marking": (_U32, [*_PHOTOGRAPH, *_LABEL, *_ANSWER, *_MARKS]),
@@ -41,31 +43,48 @@ _SIGNATURES = {
 
 
 class LibraryMissing(OSError):
-    """The shared object is not there, or is not Trufolmesca's."""
+    """The shared object is not there, or is not Trufolmesca's of this version."""
 
 
 def library_path() -> Path:
-    """Where the shared object is looked for: $TRUFOLMESCA_LIBRARY, else where tools/setup puts it."""
-    return Path(os.environ.get("TRUFOLMESCA_LIBRARY") or _DEFAULT)
+    """The shared object: $TRUFOLMESCA_LIBRARY, else the one in this package, else a bare name, for which the loader looks."""
+    named = os.environ.get("TRUFOLMESCA_LIBRARY")
+    if named:
+        return Path(named).absolute()
+    # In a repository it is a link to what tools/setup builds, and leads nowhere before.
+    return _BESIDE if os.path.lexists(_BESIDE) else Path(SONAME)
 
 
 @lru_cache(maxsize=None)
 def load_library() -> ctypes.CDLL:
     """The shared object, loaded once, with its 17 functions declared."""
     path = library_path()
-    if not path.is_file():
-        raise LibraryMissing(f"the library {path} is not there: run tools/setup")
+    if path.name != str(path):
+        _check_file(path)
     try:
         loaded = ctypes.CDLL(str(path))
-        for name, (result, arguments) in _SIGNATURES.items():
+        for name, (result, arguments) in SIGNATURES.items():
             function = getattr(loaded, f"trufolmesca_{name}")
             function.restype, function.argtypes = result, arguments
     except (OSError, AttributeError) as error:
-        raise LibraryMissing(f"the library {path} cannot be used ({error}): run tools/setup") from None
+        raise LibraryMissing(f"the library {path} cannot be used ({error}): install libtrufolmesca0, or set "
+                             "TRUFOLMESCA_LIBRARY to its path") from None
     return loaded
 
 
-def call(name: str, *arguments: object) -> int | float | None:
+def _check_file(path: Path) -> None:
+    """Refuses a file that is not there, or that does not name itself as the calls are declared here."""
+    try:
+        contents = path.read_bytes()
+    except OSError as error:
+        hint = "TRUFOLMESCA_LIBRARY names it" if os.environ.get("TRUFOLMESCA_LIBRARY") else "run tools/setup"
+        raise LibraryMissing(f"the library {path} cannot be read ({(error.strerror or str(error)).lower()}): {hint}") from None
+    # A shared object has its soname among its strings, each with a 0 behind it.
+    if SONAME.encode() + b"\0" not in contents:
+        raise LibraryMissing(f"the library {path} cannot be used: it is not {SONAME}")
+
+
+def call(name: str, *arguments: object) -> Any:
     """Calls a function; an array among the arguments goes as its pointer and its length."""
     flat: list[object] = []
     for argument in arguments:
@@ -74,8 +93,3 @@ def call(name: str, *arguments: object) -> int | float | None:
         else:
             flat.append(argument)
     return getattr(load_library(), f"trufolmesca_{name}")(*flat)
-
-
-def floats(values: object) -> np.ndarray:
-    """Values as one row of doubles, as the calls read lists of numbers."""
-    return np.ascontiguousarray(values, dtype=np.float64).ravel()
