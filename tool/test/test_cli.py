@@ -67,7 +67,7 @@ def test_a_missing_library_is_said_once(measured):
     for words in (("measure", measured.home / "find.png", "--out", measured.out), ("verify", measured.out)):
         done = run_alone(*words, env=elsewhere, stderr=subprocess.PIPE)
         assert done.returncode == 2 and done.stdout == ""
-        assert done.stderr == "trufolmesca: the library /none/libtrufolmesca.so cannot be read (no such file or directory): TRUFOLMESCA_LIBRARY names it\n"
+        assert done.stderr == "trufolmesca: the library /none/libtrufolmesca.so cannot be used (it is not there): TRUFOLMESCA_LIBRARY names it\n"
 
 
 def test_a_bar_where_a_person_watches_many(measured):

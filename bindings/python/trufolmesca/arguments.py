@@ -85,4 +85,4 @@ def byte(what: str, value: int) -> int:
 def instance(what: str, value: object, kind: type) -> None:
     """Demands a value of one of the package's classes."""
     if not isinstance(value, kind):
-        raise TypeError(f"{what} is a {kind.__name__}, not {value!r}")
+        raise TypeError(f"{what} is of class {kind.__name__}, not {type(value).__name__}")

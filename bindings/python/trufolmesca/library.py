@@ -59,29 +59,32 @@ def library_path() -> Path:
 def load_library() -> ctypes.CDLL:
     """The shared object, loaded once, with its 17 functions declared."""
     path = library_path()
-    if path.name != str(path):
-        _check_file(path)
     try:
+        if path != Path(SONAME):
+            _check_file(path)
         loaded = ctypes.CDLL(str(path))
         for name, (result, arguments) in SIGNATURES.items():
             function = getattr(loaded, f"trufolmesca_{name}")
             function.restype, function.argtypes = result, arguments
     except (OSError, AttributeError) as error:
-        raise LibraryMissing(f"the library {path} cannot be used ({error}): install libtrufolmesca0, or set "
-                             "TRUFOLMESCA_LIBRARY to its path") from None
+        raise LibraryMissing(f"the library {path} cannot be used ({error}): {_remedy()}") from None
     return loaded
 
 
 def _check_file(path: Path) -> None:
-    """Refuses a file that is not there, or that does not name itself as the calls are declared here."""
-    try:
-        contents = path.read_bytes()
-    except OSError as error:
-        hint = "TRUFOLMESCA_LIBRARY names it" if os.environ.get("TRUFOLMESCA_LIBRARY") else "run tools/setup"
-        raise LibraryMissing(f"the library {path} cannot be read ({(error.strerror or str(error)).lower()}): {hint}") from None
+    """Refuses a file that is not a shared object for the calls as they are declared here."""
+    if not path.is_file():
+        raise FileNotFoundError("it is not there")
     # A shared object has its soname among its strings, each with a 0 behind it.
-    if SONAME.encode() + b"\0" not in contents:
-        raise LibraryMissing(f"the library {path} cannot be used: it is not {SONAME}")
+    if SONAME.encode() + b"\0" not in path.read_bytes():
+        raise OSError(f"it is not {SONAME}")
+
+
+def _remedy() -> str:
+    """What to do where the shared object cannot be used."""
+    if os.environ.get("TRUFOLMESCA_LIBRARY"):
+        return "TRUFOLMESCA_LIBRARY names it"
+    return "run tools/setup" if _BESIDE.is_symlink() else f"install {SONAME}, or set TRUFOLMESCA_LIBRARY to its path"
 
 
 def call(name: str, *arguments: object) -> Any:
