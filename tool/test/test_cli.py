@@ -7,6 +7,7 @@ import subprocess
 from pathlib import Path
 
 import pytest
+import trufolmesca
 from rendered import a_photograph, encoded
 
 ROOT = Path(__file__).resolve().parents[2]
@@ -23,6 +24,10 @@ def test_help_fits_a_terminal(archive, words, monkeypatch):
     monkeypatch.setenv("COLUMNS", "100")
     assert archive.run(*words) == 0
     assert archive.said.startswith("usage: trufolmesca") and max(map(len, archive.said.splitlines())) <= 100
+
+
+def test_the_version_is_the_bindings(archive):
+    assert archive.run("--version") == 0 and archive.said == f"trufolmesca {trufolmesca.__version__}\n"
 
 
 @pytest.mark.parametrize("words, said", [

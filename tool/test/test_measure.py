@@ -8,6 +8,7 @@ import struct
 
 import numpy as np
 import pytest
+import trufolmesca
 from rendered import GOOD_PX, SIZE, a_photograph, distance, encoded, two_labels
 
 from tool import many
@@ -39,6 +40,12 @@ def test_a_record_has_its_keys_in_order_and_its_files(measured):
     assert record["warnings"] == [] and record["refined"] == [True] * 4 and record["spread_px"] < 0.1
     assert sorted(path.name for path in measured.out.iterdir()) == [
         "find.blanked.png", "find.json", "find.overlay.png", "find.sheet.png", "summary.csv"]
+
+
+def test_a_record_says_what_ran(measured):
+    archive = trufolmesca.library_path().with_name("libtrufolmesca.archive-sha256").read_text().strip()
+    versions = measured.record("find")["versions"]
+    assert versions["tool"] == trufolmesca.__version__ and versions["library_archive_sha256"] == archive and len(archive) == 64
 
 
 def test_corners_and_pictures_are_right(measured):

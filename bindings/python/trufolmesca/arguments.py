@@ -64,7 +64,7 @@ def numbers(what: str, values: ArrayLike, *shape: int | None) -> NDArray[np.floa
 
 def number(what: str, value: float) -> float:
     """A value as one double."""
-    return value if type(value) is float else float(numbers(what, value)[0])
+    return value if isinstance(value, float) else float(numbers(what, value)[0])
 
 
 def flag(what: str, value: bool) -> bool:
