@@ -349,7 +349,7 @@ def test_where_the_library_is_looked_for(root, library, tmp_path):
 def test_a_library_that_cannot_be_used_is_said(root, library, tmp_path):
     package = packaged(tmp_path, root)
     (tmp_path / "libtrufolmesca.so.0").write_text("no library, which the loader finds before any that is installed")
-    assert re.fullmatch(r"the library libtrufolmesca.so.0 cannot be used \(.*ELF.*\): install libtrufolmesca.so.0, or set "
+    assert re.fullmatch(r"the library libtrufolmesca.so.0 cannot be used \(.*too short\): install libtrufolmesca.so.0, or set "
                         "TRUFOLMESCA_LIBRARY to its path", said_by(package, LD_LIBRARY_PATH=str(tmp_path)))
     assert said_by(package, TRUFOLMESCA_LIBRARY="/none.so") == (
         "the library /none.so cannot be used (it is not there): TRUFOLMESCA_LIBRARY names it")
