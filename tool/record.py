@@ -102,10 +102,9 @@ def camera_as_json(camera: Camera | None) -> dict[str, Any] | None:
 @lru_cache(maxsize=None)
 def versions() -> dict[str, str | None]:
     """What ran: this tool, the library's archive by its SHA-256, OpenCV and the decoder."""
-    archive = trufolmesca.library_path().with_name("libtrufolmesca.archive-sha256")
     return {
         "tool": trufolmesca.__version__,
-        "library_archive_sha256": archive.read_text().strip() if archive.is_file() else None,
+        "library_archive_sha256": trufolmesca.archive_sha256(),
         "opencv": cv2.__version__,
         "zxing": _package_version("python3-zxing-cpp"),
     }

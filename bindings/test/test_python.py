@@ -8,6 +8,7 @@ import shutil
 import subprocess
 import sys
 from concurrent.futures import ThreadPoolExecutor
+from hashlib import sha256
 from pathlib import Path
 
 import numpy as np
@@ -218,17 +219,22 @@ def test_options_of_another_kind_are_said(example, options, error, said):
         trufolmesca.refine_corners(*example, **options)
 
 
+def placed(camera: object = CAMERA, x: object = 1, y: object = 2) -> tuple[float, float]:
+    """A call through a camera, of which one argument is wrong."""
+    return trufolmesca.rectified_to_source(camera, x, y)
+
+
 @pytest.mark.parametrize("call, error, said", [
-    (lambda p: trufolmesca.rectified_to_source(None, 1, 2), TypeError, "the camera is of class Camera, not NoneType"),
-    (lambda p: trufolmesca.rectified_to_source(Camera(PLAIN, (1, 1, 0, 0)), 1, 2), TypeError, "rectified picture is of class Intrinsics, not tuple"),
-    (lambda p: trufolmesca.rectified_to_source(Camera(None, PLAIN), 1, 2), TypeError, "the camera's source is of class Intrinsics"),
-    (lambda p: trufolmesca.rectified_to_source(Camera(PLAIN, PLAIN, [0] * 5), 1, 2), TypeError, "the camera's lens is of class Lens, not list"),
-    (lambda p: trufolmesca.rectified_to_source(Camera(PLAIN, Intrinsics(1, None, 1, 1)), 1, 2), TypeError, "the camera: numbers"),
-    (lambda p: trufolmesca.rectified_to_source(CAMERA, "1", 2), TypeError, "x: numbers are wanted"),
-    (lambda p: trufolmesca.rectified_to_source(CAMERA, 1, 10 ** 400), TypeError, "y: numbers are wanted"),
+    (lambda p: placed(None), TypeError, "the camera is of class Camera, not NoneType"),
+    (lambda p: placed(Camera(PLAIN, (1, 1, 0, 0))), TypeError, "rectified picture is of class Intrinsics, not tuple"),
+    (lambda p: placed(Camera(None, PLAIN)), TypeError, "the camera's source is of class Intrinsics"),
+    (lambda p: placed(Camera(PLAIN, PLAIN, [0] * 5)), TypeError, "the camera's lens is of class Lens, not list"),
+    (lambda p: placed(Camera(PLAIN, Intrinsics(1, None, 1, 1))), TypeError, "the camera: numbers"),
+    (lambda p: placed(x="1"), TypeError, "x: numbers are wanted"),
+    (lambda p: placed(y=10 ** 400), TypeError, "y: numbers are wanted"),
     (lambda p: trufolmesca.sample_bilinear(p, 1, 2, 3), ValueError, "3 is not a valid Border"),
     (lambda p: trufolmesca.sample_bilinear(p, 1, 2, Border.CONSTANT, 256), ValueError, "the constant is a whole number from 0 to 255"),
-    (lambda p: trufolmesca.sample_bilinear(p, [1], 2), ValueError, r"x: the shape is \(1,\)"),
+    (lambda p: trufolmesca.sample_bilinear(p, [1], 2), ValueError, r"x: the shape is \(1,\), not one number"),
     (lambda p: trufolmesca.localize_edge_point(p, (1, 2, 3), (1, 0), 1), ValueError, r"the place: the shape is \(3,\), not 2"),
     (lambda p: trufolmesca.localize_edge_point(p, (1, 2), (1, 0), 1, False, None), TypeError, "inward_differs is True or False"),
     (lambda p: trufolmesca.map_point(np.zeros(9), 0, 0), ValueError, r"the map: the shape is \(9,\), not 3 by 3"),
@@ -324,26 +330,29 @@ def argument_type(argument: str) -> type:
 
 def packaged(folder: Path, root: Path) -> Path:
     """The package's Python in a folder of its own, without the shared object."""
-    shutil.copytree(root / "bindings/python/trufolmesca", folder / "trufolmesca", ignore=shutil.ignore_patterns("libtrufolmesca.*", "__pycache__"))
+    left_out = shutil.ignore_patterns("libtrufolmesca.*", "__pycache__")
+    shutil.copytree(root / "bindings/python/trufolmesca", folder / "trufolmesca", ignore=left_out)
     return folder / "trufolmesca"
 
 
 def said_by(package: Path, **environment: str) -> str:
-    """What a program prints that loads the library by this package: the library's path, or why there is none."""
+    """What a program prints that loads the library by this package: its path, a root and its archive's hash, or why there is none."""
     program = ("import sys; sys.path.insert(0, sys.argv[1]); import trufolmesca as t\n"
-               "try: print(t.library_path(), t.load_library() and t.sqrt(9.0))\nexcept t.LibraryMissing as why: print(why)")
+               "try: print(t.library_path(), t.load_library() and t.sqrt(9.0), t.archive_sha256())\n"
+               "except t.LibraryMissing as why: print(why)")
     return subprocess.run([sys.executable, "-I", "-B", "-c", program, package.parent], env=environment, capture_output=True,
-                          text=True, check=True).stdout.strip()
+                          text=True, check=True, cwd=package).stdout.strip()
 
 
-def test_where_the_library_is_looked_for(root, library, tmp_path):
+def test_where_the_library_and_its_archives_hash_are_looked_for(root, library, archive, tmp_path):
     package = packaged(tmp_path, root)
-    assert said_by(package, TRUFOLMESCA_LIBRARY=str(library)) == f"{library} 3.0"
+    (package / "libtrufolmesca.archive-sha256").write_text("0123\n")
+    assert said_by(package, TRUFOLMESCA_LIBRARY=str(library)) == f"{library} 3.0 {sha256(archive.read_bytes()).hexdigest()}"
     (tmp_path / "system").mkdir()
     shutil.copy(library, tmp_path / "system" / "libtrufolmesca.so.0")
-    assert said_by(package, LD_LIBRARY_PATH=str(tmp_path / "system")) == "libtrufolmesca.so.0 3.0"
+    assert said_by(package, LD_LIBRARY_PATH=str(tmp_path / "system")) == "libtrufolmesca.so.0 3.0 None"
     shutil.copy(library, package / "libtrufolmesca.so.0")
-    assert said_by(package, LD_LIBRARY_PATH=str(tmp_path / "system")) == f"{package}/libtrufolmesca.so.0 3.0"
+    assert said_by(package, LD_LIBRARY_PATH=str(tmp_path / "system")) == f"{package}/libtrufolmesca.so.0 3.0 0123"
 
 
 def test_a_library_that_cannot_be_used_is_said(root, library, tmp_path):

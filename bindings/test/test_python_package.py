@@ -9,12 +9,13 @@ import sys
 import tarfile
 import zipfile
 from email import message_from_bytes
+from hashlib import sha256
 from pathlib import Path
 
 import pytest
 import trufolmesca
 
-CARRIED = {"trufolmesca/__init__.py", "trufolmesca/py.typed", "trufolmesca/libtrufolmesca.so.0", "trufolmesca/libtrufolmesca.archive-sha256"}
+CARRIED = {f"trufolmesca/{name}" for name in ("__init__.py", "py.typed", "libtrufolmesca.so.0", "libtrufolmesca.archive-sha256")}
 WITHOUT_LIBRARY = {key: value for key, value in os.environ.items() if key != "TRUFOLMESCA_LIBRARY"}
 
 
@@ -59,7 +60,8 @@ def built(root, library, archive, tmp_path_factory) -> Path:
 def installed(built, tmp_path_factory) -> Path:
     """The wheel, installed into a folder of its own."""
     site = tmp_path_factory.mktemp("site")
-    done = run(sys.executable, "-m", "pip", "install", "--no-index", "--no-deps", "--no-compile", "--target", site, *built.glob("*.whl"))
+    wheel, = built.glob("*.whl")
+    done = run(sys.executable, "-m", "pip", "install", "--no-index", "--no-deps", "--no-compile", "--target", site, wheel)
     assert done.returncode == 0, done.stdout + done.stderr
     return site
 
@@ -97,12 +99,11 @@ def test_without_a_library_nothing_is_built(root, tmp_path):
 def test_installed_it_works_without_repository_and_variables(installed, root, archive, tmp_path):
     program, output = example(root)
     shutil.copytree(root / "examples", tmp_path / "examples")
-    (tmp_path / "example.py").write_text(
-        f"import sys\nsys.path.insert(0, {str(installed)!r})\n{program}print(trufolmesca.library_path())\n")
+    (tmp_path / "example.py").write_text(f"import sys\nsys.path.insert(0, {str(installed)!r})\n{program}"
+                                         "print(trufolmesca.library_path(), trufolmesca.archive_sha256())\n")
     done = run(sys.executable, "-I", "-B", "example.py", cwd=tmp_path)
-    assert done.stderr == "" and done.stdout == f"{output}{installed}/trufolmesca/libtrufolmesca.so.0\n"
-    said = run("sha256sum", archive).stdout.split()[0]
-    assert (installed / "trufolmesca/libtrufolmesca.archive-sha256").read_text() == said + "\n"
+    proved = sha256(archive.read_bytes()).hexdigest()
+    assert done.stderr == "" and done.stdout == f"{output}{installed}/trufolmesca/libtrufolmesca.so.0 {proved}\n"
 
 
 def test_the_type_hints_are_strict_for_the_package_and_its_users(installed, root, tmp_path):

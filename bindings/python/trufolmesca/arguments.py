@@ -25,10 +25,11 @@ def _array(what: str, values: ArrayLike) -> NDArray[Any]:
 
 
 def photograph_arguments(picture: ArrayLike) -> Photograph:
-    """A picture as the calls read it: its bytes, width, height and stride; no byte is copied where each row lies in one piece."""
+    """A picture as the calls read it: bytes, width, height, stride; not copied where each row lies in one piece."""
     array = _array("the photograph", picture)
     if array.ndim != 2:
-        raise ValueError(f"the photograph has the shape {array.shape}, not rows and columns: make a colour picture grey first")
+        raise ValueError(f"the photograph has the shape {array.shape}, not rows and columns: "
+                         "make a colour picture grey first")
     if array.dtype != np.uint8:
         raise TypeError(f"the photograph is of {array.dtype}, not of uint8: bring it to 8 bits first")
     height, width = array.shape
@@ -52,12 +53,12 @@ def modules_and_dimension(modules: ArrayLike) -> tuple[NDArray[np.uint8], int]:
 
 
 def numbers(what: str, values: ArrayLike, *shape: int | None) -> NDArray[np.float64]:
-    """Values as a list of doubles by rows, of a shape in which None is any length; NaN and infinity are the library's to refuse."""
+    """Values of a shape, in which None is any length, as a list of doubles; NaN is the library's to refuse."""
     array = _array(what, values)
     if array.dtype.kind not in "iuf":
         raise TypeError(f"{what}: numbers are wanted, not {array.dtype}")
     if len(array.shape) != len(shape) or any(want not in (None, have) for want, have in zip(shape, array.shape)):
-        wanted = " by ".join("n" if side is None else str(side) for side in shape)
+        wanted = " by ".join("n" if side is None else str(side) for side in shape) or "one number"
         raise ValueError(f"{what}: the shape is {array.shape}, not {wanted}")
     return np.ascontiguousarray(array, np.float64).reshape(-1)
 

@@ -11,6 +11,7 @@ import numpy as np
 
 SONAME = "libtrufolmesca.so.0"
 _BESIDE = Path(__file__).resolve().with_name(SONAME)
+_FOR_THE_LOADER = Path(SONAME)
 
 _U32, _F64, _BOOL, _U8 = ctypes.c_uint32, ctypes.c_double, ctypes.c_bool, ctypes.c_uint8
 _LIST = [ctypes.c_void_p, ctypes.c_size_t]
@@ -47,12 +48,19 @@ class LibraryMissing(OSError):
 
 
 def library_path() -> Path:
-    """The shared object: $TRUFOLMESCA_LIBRARY, else the one in this package, else a bare name, for which the loader looks."""
+    """The shared object: $TRUFOLMESCA_LIBRARY, else the one in this package, else a name that the loader finds."""
     named = os.environ.get("TRUFOLMESCA_LIBRARY")
     if named:
         return Path(named).absolute()
     # In a repository it is a link to what tools/setup builds, and leads nowhere before.
-    return _BESIDE if os.path.lexists(_BESIDE) else Path(SONAME)
+    return _BESIDE if os.path.lexists(_BESIDE) else _FOR_THE_LOADER
+
+
+def archive_sha256() -> str | None:
+    """The SHA-256 of the proved archive that the shared object was made of, where a file beside it says so."""
+    path = library_path()
+    beside = path.with_name("libtrufolmesca.archive-sha256")
+    return beside.read_text().strip() if path != _FOR_THE_LOADER and beside.is_file() else None
 
 
 @lru_cache(maxsize=None)
@@ -60,7 +68,7 @@ def load_library() -> ctypes.CDLL:
     """The shared object, loaded once, with its 17 functions declared."""
     path = library_path()
     try:
-        if path != Path(SONAME):
+        if path != _FOR_THE_LOADER:
             _check_file(path)
         loaded = ctypes.CDLL(str(path))
         for name, (result, arguments) in SIGNATURES.items():
