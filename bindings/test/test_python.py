@@ -176,7 +176,7 @@ def test_a_refusal_behind_7_carries_sheet_and_copy_also_to_another_process(examp
     (lambda p: p > 9, TypeError, "the photograph is of bool"),
     (lambda p: p.tolist(), TypeError, "the photograph is of int64"),
     (lambda p: [[1, 2], [3]], ValueError, "the photograph: the rows have different lengths"),
-    (lambda p: None, ValueError, r"the photograph has the shape \(\)")])
+    (lambda p: None, TypeError, "the photograph is of object")])
 def test_a_picture_that_is_none_is_said(example, wrong, error, said):
     picture, grid, rough = example
     with pytest.raises(error, match=said):
@@ -368,4 +368,4 @@ def test_a_library_that_cannot_be_used_is_said(root, library, tmp_path):
     other.write_bytes(library.read_bytes().replace(b"trufolmesca_sqrt", b"trufolmesca_root"))
     assert "undefined symbol: trufolmesca_sqrt" in said_by(package, TRUFOLMESCA_LIBRARY=str(other))
     (package / "libtrufolmesca.so.0").symlink_to("nowhere")
-    assert said_by(package) == f"the library {package}/libtrufolmesca.so.0 cannot be used (it is not there): run tools/setup"
+    assert said_by(package) == f"the library {package}/libtrufolmesca.so.0 cannot be used (it is not there): run tools/setup, or install it anew"

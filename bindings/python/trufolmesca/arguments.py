@@ -27,11 +27,11 @@ def _array(what: str, values: ArrayLike) -> NDArray[Any]:
 def photograph_arguments(picture: ArrayLike) -> Photograph:
     """A picture as the calls read it: bytes, width, height, stride; not copied where each row lies in one piece."""
     array = _array("the photograph", picture)
+    if array.dtype != np.uint8:
+        raise TypeError(f"the photograph is of {array.dtype}, not of uint8: bring it to 8 bits first")
     if array.ndim != 2:
         raise ValueError(f"the photograph has the shape {array.shape}, not rows and columns: "
                          "make a colour picture grey first")
-    if array.dtype != np.uint8:
-        raise TypeError(f"the photograph is of {array.dtype}, not of uint8: bring it to 8 bits first")
     height, width = array.shape
     if array.flags.c_contiguous or not (array.strides[1] == 1 and width <= array.strides[0] <= _LARGEST_STRIDE):
         pixels, stride = np.ascontiguousarray(array).reshape(-1), width

@@ -92,7 +92,9 @@ def _remedy() -> str:
     """What to do where the shared object cannot be used."""
     if os.environ.get("TRUFOLMESCA_LIBRARY"):
         return "TRUFOLMESCA_LIBRARY names it"
-    return "run tools/setup" if _BESIDE.is_symlink() else f"install {SONAME}, or set TRUFOLMESCA_LIBRARY to its path"
+    if _BESIDE.is_symlink():
+        return "run tools/setup, or install it anew"
+    return f"install {SONAME}, or set TRUFOLMESCA_LIBRARY to its path"
 
 
 def call(name: str, *arguments: object) -> Any:
