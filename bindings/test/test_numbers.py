@@ -50,8 +50,8 @@ def test_the_names_and_words_in_rust_are_pythons(root):
 
 def test_the_names_and_words_of_the_manual_page_are_pythons(root):
     page = (root / "packaging/man/trufolmesca.3").read_text()
-    found = re.findall(r'^\.BR TRUFOLMESCA_(\w+) " \((\d+)\)"\n((?:[^.\n].*\n)+)', page, re.M)
-    said = [(int(number), name, " ".join(word.split()).rstrip(".")) for name, number, word in found]
+    found = re.findall(r"^\.It (\d+) Dv TRUFOLMESCA_(\w+)\n((?:[^.\n].*\n)+)", page, re.M)
+    said = [(int(number), name, " ".join(word.split())) for number, name, word in found]
     assert said == [(number.value, number.name, WORDS[number]) for number in Number]
 
 
