@@ -3,12 +3,11 @@ import os
 import sys
 from pathlib import Path
 
-VERSION = "1"
-LARGEST_SIDE = 16384  # the library's number 1
-
 ROOT = Path(__file__).resolve().parents[1]
 if str(ROOT / "bindings" / "python") not in sys.path:
     sys.path.insert(0, str(ROOT / "bindings" / "python"))
+
+from trufolmesca import LARGEST_SIDE  # noqa: E402  (the path comes first)
 
 # OpenCV reads these when it is loaded: a picture that the library would refuse by 1 is refused by
 # its header, so that no file can make a worker take more memory than the largest picture needs.

@@ -8,6 +8,7 @@ import sys
 from pathlib import Path
 
 import numpy as np
+import trufolmesca
 from trufolmesca import LibraryMissing, load_library
 
 from tool import Unanswered, reason
@@ -124,6 +125,7 @@ def parser() -> argparse.ArgumentParser:
     """The command line's words."""
     raw = argparse.RawDescriptionHelpFormatter
     words = _Parser(prog="trufolmesca", description=DESCRIPTION, formatter_class=raw)
+    words.add_argument("--version", action="version", version=f"%(prog)s {trufolmesca.__version__}")
     commands = words.add_subparsers(dest="command", required=True, metavar="measure | verify | report")
     _measure_words(commands.add_parser("measure", help="measure the labels of photographs", description=MEASURE,
                                        epilog=MEASURE_STATUS, formatter_class=raw))

@@ -251,8 +251,8 @@ def _remove_earlier(task: Task, names: list[str], sha256: str | None) -> None:
 def write_outputs(directory: Path, name: str, record: Record) -> None:
     """Writes a label's pictures and then its JSON, which is thus never there without them."""
     pictures = {}
-    if record.copy is not None:
-        pictures = {"blanked": record.copy, "sheet": record.sheet * 255, "overlay": overlay_of(record)}
+    if record.marks is not None:
+        pictures = {"blanked": record.marks.copy, "sheet": record.marks.sheet * 255, "overlay": overlay_of(record)}
     for kind in PICTURES:
         path = directory / f"{name}.{kind}.png"
         if kind in pictures:

@@ -15,7 +15,7 @@ from tool.camera import to_rectified
 from tool.label import MOST_DISAGREEING, PATTERN_AGREEMENT
 from tool.photograph import Photograph, read_photograph
 from tool.record import Record, bits_of_corners, camera_as_json
-from tool.refinement import in_photograph, px_per_mm, refine, refine_marking
+from tool.refinement import in_photograph, px_per_mm, refine, run_marking
 
 REPEATED_RUNS = 4
 MOVED_MODULES = 0.15       # how far a repeated run's corners are moved: inside what the refinement bears, and visible
@@ -209,14 +209,14 @@ def smoothed(grey: np.ndarray, sigma: float) -> np.ndarray:
 def _refined(grey: np.ndarray, request: Request, sigma: float, sentence: str) -> Record:
     """The record of one refinement: answer, spread, warnings, and the pictures."""
     picture, corners = smoothed(grey, sigma), request.corners
-    answer = refine_marking(picture, request.grid, corners, request.inverted, request.camera)
-    record = Record(answer.number, answer.word, "", text=request.text, module_px=request.module_px,
+    run = run_marking(picture, request.grid, corners, request.inverted, request.camera)
+    answer = run.answer
+    record = Record(run.number, run.word, "", text=request.text, module_px=request.module_px,
                     rough=request.rough.tolist(), rough_from=request.rough_from,
                     request=_request_as_json(picture, request, corners), answer=_answer_as_json(answer),
                     prepare={"sigma_px": sigma, "sentence": sentence},
-                    read=None if answer.sheet is None else int(answer.sheet.sum()),
-                    copy=answer.copy, sheet=answer.sheet, prepared=picture)
-    if answer.number != Number.ANSWER:
+                    read=None if run.marks is None else int(run.marks.sheet.sum()), marks=run.marks, prepared=picture)
+    if run.number != Number.ANSWER:
         return record
     places = in_photograph(request.camera, answer.corners)
     record.corners, record.refined = places.tolist(), list(answer.refined)
@@ -233,8 +233,9 @@ def _spread(picture: np.ndarray, request: Request, corners: np.ndarray, places: 
     moves = np.random.default_rng(ROUGH_SEED).uniform(-reach, reach, (REPEATED_RUNS, 4, 2))
     spread, refusals = 0.0, 0
     for move in moves:
-        again = refine(picture, request.grid, corners + move, request.inverted, request.camera)
-        if again.number != Number.ANSWER:
+        try:
+            again = refine(picture, request.grid, corners + move, request.inverted, request.camera)
+        except Refused:
             refusals += 1
             continue
         distances = np.linalg.norm(in_photograph(request.camera, again.corners) - places, axis=1)

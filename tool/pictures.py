@@ -35,8 +35,8 @@ def overlay_of(record: Record) -> np.ndarray:
     scale = OVERLAY_PX / max(right - left, bottom - top)
     scale = max(1, math.floor(scale)) if scale >= 1 else scale
     drawn = cv2.cvtColor(_sized(record.prepared[top:bottom, left:right], scale), cv2.COLOR_GRAY2BGR)
-    if record.sheet is not None:
-        marked = _sized(record.sheet[top:bottom, left:right] * 255, scale) > 0
+    if record.marks is not None:
+        marked = _sized(record.marks.sheet[top:bottom, left:right] * 255, scale) > 0
         drawn[marked] = (0.45 * drawn[marked] + 0.55 * np.array(READ_BGR)).astype(np.uint8)
     _quadrilateral(drawn, record.rough, (left, top), scale, ROUGH_BGR)
     if record.corners is not None:

@@ -14,9 +14,8 @@ from typing import Any
 
 import cv2
 import numpy as np
-from trufolmesca import Camera, library_path
-
-from tool import VERSION
+import trufolmesca
+from trufolmesca import Camera, Marks
 
 PICTURES = ("blanked", "sheet", "overlay")
 
@@ -44,13 +43,11 @@ class Record:
     prepare: dict[str, Any] | None = None
     answer: dict[str, Any] | None = None
     read: int | None = None
-    copy: np.ndarray | None = None
-    sheet: np.ndarray | None = None
+    marks: Marks | None = None
     prepared: np.ndarray | None = None
 
     def as_json(self, name: str) -> dict[str, Any]:
         """The fields of NAME.json, in their order."""
-        marked = self.copy is not None
         return {
             "number": self.number,
             "word": self.word,
@@ -71,9 +68,9 @@ class Record:
             "prepare": self.prepare,
             "answer": self.answer,
             "read": self.read,
-            "files": {kind: f"{name}.{kind}.png" for kind in PICTURES} if marked else None,
-            "copy_sha256": sha256_of_pixels(self.copy) if marked else None,
-            "sheet_sha256": sha256_of_pixels(self.sheet) if marked else None,
+            "files": {kind: f"{name}.{kind}.png" for kind in PICTURES} if self.marks else None,
+            "copy_sha256": sha256_of_pixels(self.marks.copy) if self.marks else None,
+            "sheet_sha256": sha256_of_pixels(self.marks.sheet) if self.marks else None,
             "versions": versions(),
         }
 
@@ -105,10 +102,9 @@ def camera_as_json(camera: Camera | None) -> dict[str, Any] | None:
 @lru_cache(maxsize=None)
 def versions() -> dict[str, str | None]:
     """What ran: this tool, the library's archive by its SHA-256, OpenCV and the decoder."""
-    archive = library_path().with_name(library_path().name + ".archive-sha256")
     return {
-        "tool": VERSION,
-        "library_archive_sha256": archive.read_text().strip() if archive.is_file() else None,
+        "tool": trufolmesca.__version__,
+        "library_archive_sha256": trufolmesca.archive_sha256(),
         "opencv": cv2.__version__,
         "zxing": _package_version("python3-zxing-cpp"),
     }

@@ -1,9 +1,28 @@
 """The library's calls as measuring and verifying make them, and what follows from an answer."""
 from __future__ import annotations
 
+from dataclasses import dataclass
+
 import numpy as np
 import trufolmesca
-from trufolmesca import Answer, Camera, Marked
+from trufolmesca import Answer, Camera, Edge, Marks, Number, Refused, word_of
+
+# What a record says of a refused run: nothing was found of any corner or edge.
+NOTHING = Answer(np.zeros((4, 2)), (False,) * 4, (Edge(0, 0, 0, False),) * 4)
+
+
+@dataclass(frozen=True)
+class Run:
+    """What a marking refinement came to, answered or refused: a record has both, and so both can be verified."""
+
+    number: int
+    answer: Answer
+    marks: Marks | None
+
+    @property
+    def word(self) -> str:
+        """The number in words."""
+        return word_of(self.number)
 
 
 def refine(picture: np.ndarray, grid: np.ndarray, corners: np.ndarray, inverted: bool, camera: Camera | None) -> Answer:
@@ -13,11 +32,16 @@ def refine(picture: np.ndarray, grid: np.ndarray, corners: np.ndarray, inverted:
     return trufolmesca.refine_corners_mapped(picture, grid, corners, camera, inverted=inverted)
 
 
-def refine_marking(picture: np.ndarray, grid: np.ndarray, corners: np.ndarray, inverted: bool, camera: Camera | None) -> Marked:
+def run_marking(picture: np.ndarray, grid: np.ndarray, corners: np.ndarray, inverted: bool, camera: Camera | None) -> Run:
     """The refinement with its sheet and copy, through the camera if there is one."""
-    if camera is None:
-        return trufolmesca.refine_corners_marking(picture, grid, corners, inverted=inverted)
-    return trufolmesca.refine_corners_mapped_marking(picture, grid, corners, camera, inverted=inverted)
+    try:
+        if camera is None:
+            answer = trufolmesca.refine_corners_marking(picture, grid, corners, inverted=inverted)
+        else:
+            answer = trufolmesca.refine_corners_mapped_marking(picture, grid, corners, camera, inverted=inverted)
+    except Refused as refusal:
+        return Run(refusal.number, NOTHING, refusal.marks)
+    return Run(Number.ANSWER, answer, answer.marks)
 
 
 def in_photograph(camera: Camera | None, corners: np.ndarray) -> np.ndarray:

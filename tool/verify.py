@@ -2,16 +2,17 @@
 from __future__ import annotations
 
 import struct
+from dataclasses import asdict
 from pathlib import Path
 from typing import Any
 
 import numpy as np
-from trufolmesca import Marked, Number, Refused, word_of
+from trufolmesca import Number, Refused, word_of
 
 from tool import Unanswered, printable
 from tool.published import Differs, camera_of, read_fields, read_published
 from tool.record import bits_of, bits_of_corners, camera_as_json, sha256_of_pixels
-from tool.refinement import in_photograph, px_per_mm, refine_marking
+from tool.refinement import Run, in_photograph, px_per_mm, run_marking
 
 SAME = "the same corners, sheet and copy"
 NOTHING = "refused when it was measured, so there is no copy to verify"
@@ -39,10 +40,10 @@ def verify_record(path: Path) -> str:
         return _without_copy(fields)
     copy = read_published(path.parent / _file_name(fields, "blanked"), "blanked copy", fields["request"])
     sheet = read_published(path.parent / _file_name(fields, "sheet"), "sheet", fields["request"])
-    answer = _run_again(fields, copy)
-    _compare_pixels(fields, copy, sheet, answer)
-    _compare_answer(fields, answer)
-    _compare_said(fields, answer)
+    run = _run_again(fields, copy)
+    _compare_pixels(fields, copy, sheet, run)
+    _compare_answer(fields, run)
+    _compare_said(fields, run)
     return SAME if fields["number"] == Number.ANSWER else f"the same refusal by {fields['number']}, sheet and copy"
 
 
@@ -65,7 +66,7 @@ def _value_of(bits: str) -> float:
     return struct.unpack(">d", bytes.fromhex(bits))[0]
 
 
-def _run_again(fields: dict[str, Any], copy: np.ndarray) -> Marked:
+def _run_again(fields: dict[str, Any], copy: np.ndarray) -> Run:
     """The refinement of the record's request over the copy, and nothing else."""
     request = fields["request"]
     for pair, bits in zip(request["corners"], request["corners_bits"]):
@@ -78,10 +79,10 @@ def _run_again(fields: dict[str, Any], copy: np.ndarray) -> Marked:
         raise Differs("the camera of the request was changed: its decimals and its bits are not the same numbers")
     if camera is None and fields["rough"] != request["corners"]:
         raise Differs("a rough corner was changed: it is not the one of the request")
-    return refine_marking(copy, grid, corners, request["inverted"], camera)
+    return run_marking(copy, grid, corners, request["inverted"], camera)
 
 
-def _compare_pixels(fields: dict[str, Any], copy: np.ndarray, sheet: np.ndarray, answer: Marked) -> None:
+def _compare_pixels(fields: dict[str, Any], copy: np.ndarray, sheet: np.ndarray, run: Run) -> None:
     """Compares copy and sheet with those of the run, and with their hashes."""
     odd = int(((sheet != 0) & (sheet != 255)).sum())
     if odd:
@@ -90,15 +91,15 @@ def _compare_pixels(fields: dict[str, Any], copy: np.ndarray, sheet: np.ndarray,
     if beside:
         raise Differs(f"the copy shows {_pixels(beside)} that the sheet does not mark as read")
     if sha256_of_pixels(copy) != fields["copy_sha256"]:
-        raise Differs(f"a pixel of the copy was changed: its pixels are not those whose hash was published{_effect(fields, answer)}")
-    if answer.sheet is None:
-        raise Differs(f"the run over the copy is refused by {answer.number}: {answer.word}")
+        raise Differs(f"a pixel of the copy was changed: its pixels are not those whose hash was published{_effect(fields, run)}")
+    if run.marks is None:
+        raise Differs(f"the run over the copy is refused by {run.number}: {run.word}")
     if sha256_of_pixels(sheet // 255) != fields["sheet_sha256"]:
         raise Differs("the sheet was changed: its pixels are not those whose hash was published")
-    wrong = int((answer.sheet != sheet // 255).sum())
+    wrong = int((run.marks.sheet != sheet // 255).sum())
     if wrong:
-        raise Differs(f"the run over the copy marks another sheet: {_pixels(wrong)} differ{_effect(fields, answer)}")
-    wrong = int((answer.copy != copy).sum())
+        raise Differs(f"the run over the copy marks another sheet: {_pixels(wrong)} differ{_effect(fields, run)}")
+    wrong = int((run.marks.copy != copy).sum())
     if wrong:
         raise Differs(f"the run over the copy leaves another copy: {_pixels(wrong)} differ")
 
@@ -108,43 +109,42 @@ def _pixels(count: int) -> str:
     return f"{count} pixel" + ("" if count == 1 else "s")
 
 
-def _effect(fields: dict[str, Any], answer: Marked) -> str:
+def _effect(fields: dict[str, Any], run: Run) -> str:
     """How far a run over this copy is from the published answer."""
-    if answer.number != fields["number"]:
-        return f"; a run over it ends in {answer.number} ({answer.word}), not in {fields['number']}"
-    moved = float(np.abs(answer.corners - np.array(fields["answer"]["corners"])).max())
+    if run.number != fields["number"]:
+        return f"; a run over it ends in {run.number} ({run.word}), not in {fields['number']}"
+    moved = float(np.abs(run.answer.corners - np.array(fields["answer"]["corners"])).max())
     return f"; a run over it moves a corner by {moved:.3g} pixel" if moved else "; the corners stay the same"
 
 
-def _compare_answer(fields: dict[str, Any], answer: Marked) -> None:
+def _compare_answer(fields: dict[str, Any], run: Run) -> None:
     """Compares the run's number, corners and counts with those published, to the last bit."""
     published = fields["answer"]
-    if answer.number != fields["number"]:
-        raise Differs(f"the run over the copy ends in {answer.number} ({answer.word}), not in {fields['number']}")
-    if bits_of_corners(answer.corners) != published["corners_bits"]:
-        moved = float(np.abs(answer.corners - [[_value_of(bits) for bits in pair] for pair in published["corners_bits"]]).max())
+    if run.number != fields["number"]:
+        raise Differs(f"the run over the copy ends in {run.number} ({run.word}), not in {fields['number']}")
+    if bits_of_corners(run.answer.corners) != published["corners_bits"]:
+        moved = float(np.abs(run.answer.corners - [[_value_of(bits) for bits in pair] for pair in published["corners_bits"]]).max())
         raise Differs(f"the run over the copy gives other corners: one differs by {moved:.3g} pixel")
     if bits_of_corners(np.array(published["corners"], float)) != published["corners_bits"]:
         raise Differs("a corner of the answer was changed: its decimals and its bits are not the same number")
-    edges = [{"probed": edge.probed, "fit": edge.fit, "dropped": edge.dropped, "valid": edge.valid} for edge in answer.edges]
-    if edges != published["edges"]:
+    if [asdict(edge) for edge in run.answer.edges] != published["edges"]:
         raise Differs("the run over the copy counts other edge points")
-    if int(answer.sheet.sum()) != fields["read"]:
-        raise Differs(f"{int(answer.sheet.sum())} pixels were read, and the record says {fields['read']}")
+    if int(run.marks.sheet.sum()) != fields["read"]:
+        raise Differs(f"{int(run.marks.sheet.sum())} pixels were read, and the record says {fields['read']}")
 
 
-def _compare_said(fields: dict[str, Any], answer: Marked) -> None:
+def _compare_said(fields: dict[str, Any], run: Run) -> None:
     """Compares what the record says first with what follows from the run: corners in the photograph, flags, scale."""
     if fields["word"] != word_of(fields["number"]):
         raise Differs(f"the record's words are not those of number {fields['number']}: {word_of(fields['number'])}")
-    if answer.number != Number.ANSWER:
+    if run.number != Number.ANSWER:
         if fields["corners"] is not None:
             raise Differs("the record has corners, and the run over the copy is refused")
         return
-    if fields["refined"] != list(answer.refined):
+    if fields["refined"] != list(run.answer.refined):
         raise Differs("the record says that other corners were refined than the run over the copy")
     try:
-        places = in_photograph(camera_of(fields["request"]["camera"]), answer.corners)
+        places = in_photograph(camera_of(fields["request"]["camera"]), run.answer.corners)
     except Refused as refusal:
         raise Differs(f"a corner has no place in the photograph: {refusal.word}") from None
     if fields["corners"] is None or bits_of_corners(np.array(fields["corners"], float)) != bits_of_corners(places):

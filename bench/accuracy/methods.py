@@ -76,11 +76,13 @@ def plain(scene: Scene, start: Optional[np.ndarray]) -> Found:
     """One call of the refinement over the picture as it is, through the camera where there is a lens."""
     if start is None:
         return Found(None)
-    if scene.camera is None:
-        answer = trufolmesca.refine_corners(scene.picture, scene.grid, start)
-        return Found(answer.corners if answer.number == 0 else None)
-    answer = trufolmesca.refine_corners_mapped(scene.picture, scene.grid, undistorted(scene.camera, start), library_camera(scene))
-    return Found(distorted(scene.camera, answer.corners) if answer.number == 0 else None)
+    try:
+        if scene.camera is None:
+            return Found(trufolmesca.refine_corners(scene.picture, scene.grid, start).corners)
+        answer = trufolmesca.refine_corners_mapped(scene.picture, scene.grid, undistorted(scene.camera, start), library_camera(scene))
+    except trufolmesca.Refused:
+        return Found(None)
+    return Found(distorted(scene.camera, answer.corners))
 
 
 def this_tool(scene: Scene, start: Optional[np.ndarray] = None, lens: bool = True) -> Found:

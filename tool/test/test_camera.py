@@ -4,7 +4,7 @@ from __future__ import annotations
 import cv2
 import numpy as np
 import pytest
-from conftest import distance
+from rendered import distance
 
 from tool import Unanswered
 from tool.camera import read_camera, to_rectified, to_source

@@ -7,7 +7,8 @@ import subprocess
 from pathlib import Path
 
 import pytest
-from conftest import a_photograph, encoded
+import trufolmesca
+from rendered import a_photograph, encoded
 
 ROOT = Path(__file__).resolve().parents[2]
 ROUGH = (ROOT / "examples/label.rough").read_text().split()
@@ -23,6 +24,10 @@ def test_help_fits_a_terminal(archive, words, monkeypatch):
     monkeypatch.setenv("COLUMNS", "100")
     assert archive.run(*words) == 0
     assert archive.said.startswith("usage: trufolmesca") and max(map(len, archive.said.splitlines())) <= 100
+
+
+def test_the_version_is_the_bindings(archive):
+    assert archive.run("--version") == 0 and archive.said == f"trufolmesca {trufolmesca.__version__}\n"
 
 
 @pytest.mark.parametrize("words, said", [
@@ -67,7 +72,7 @@ def test_a_missing_library_is_said_once(measured):
     for words in (("measure", measured.home / "find.png", "--out", measured.out), ("verify", measured.out)):
         done = run_alone(*words, env=elsewhere, stderr=subprocess.PIPE)
         assert done.returncode == 2 and done.stdout == ""
-        assert done.stderr == "trufolmesca: the library /none/libtrufolmesca.so is not there: run tools/setup\n"
+        assert done.stderr == "trufolmesca: the library /none/libtrufolmesca.so cannot be used (it is not there): TRUFOLMESCA_LIBRARY names it\n"
 
 
 def test_a_bar_where_a_person_watches_many(measured):

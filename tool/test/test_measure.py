@@ -8,7 +8,8 @@ import struct
 
 import numpy as np
 import pytest
-from conftest import GOOD_PX, SIZE, a_photograph, distance, encoded, two_labels
+import trufolmesca
+from rendered import GOOD_PX, SIZE, a_photograph, distance, encoded, two_labels
 
 from tool import many
 from tool.label import PATTERN_AGREEMENT, decode, edge_blur, fixed_patterns, pattern_agreement, read_grid, text_of
@@ -39,6 +40,12 @@ def test_a_record_has_its_keys_in_order_and_its_files(measured):
     assert record["warnings"] == [] and record["refined"] == [True] * 4 and record["spread_px"] < 0.1
     assert sorted(path.name for path in measured.out.iterdir()) == [
         "find.blanked.png", "find.json", "find.overlay.png", "find.sheet.png", "summary.csv"]
+
+
+def test_a_record_says_what_ran(measured):
+    versions = measured.record("find")["versions"]
+    assert versions["tool"] == trufolmesca.__version__
+    assert versions["library_archive_sha256"] == trufolmesca.archive_sha256() and len(trufolmesca.archive_sha256()) == 64
 
 
 def test_corners_and_pictures_are_right(measured):
@@ -296,7 +303,7 @@ def test_refine_picture_needs_no_file():
     made = a_photograph()
     record = refine_picture(made.picture, moved(made.corners, 0.25), made.grid)
     assert record.number == 0 and distance(record.corners, made.corners) < GOOD_PX
-    assert record.copy.shape == record.sheet.shape == made.picture.shape
+    assert record.marks.copy.shape == record.marks.sheet.shape == made.picture.shape
     assert refine_picture(made.picture, made.corners, made.grid, sigma=0.8).prepare["sigma_px"] == 0.8
     inverted = a_photograph(inverted=True)
     assert distance(refine_picture(inverted.picture, inverted.corners, inverted.grid, inverted=True).corners, inverted.corners) < GOOD_PX

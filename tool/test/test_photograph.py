@@ -4,7 +4,7 @@ from __future__ import annotations
 import cv2
 import numpy as np
 import pytest
-from conftest import (GOOD_PX, a_photograph, distance, encoded, exif_block, jpeg_with_exif, png_with_chunk)
+from rendered import (GOOD_PX, a_photograph, distance, encoded, exif_block, jpeg_with_exif, png_with_chunk)
 
 from tool import Unanswered
 from tool.measure import Options, measure

@@ -7,7 +7,7 @@ import shutil
 import cv2
 import numpy as np
 import pytest
-from conftest import a_photograph, encoded, exif_block, png_with_chunk, two_labels
+from rendered import a_photograph, encoded, exif_block, png_with_chunk, two_labels
 
 
 def refused(archive, words: str) -> None:

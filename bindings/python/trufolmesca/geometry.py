@@ -4,10 +4,13 @@ from __future__ import annotations
 from dataclasses import dataclass
 
 import numpy as np
-from numpy.typing import ArrayLike
+from numpy.typing import ArrayLike, NDArray
 
-from .library import call, floats
-from .numbers import demand
+from .arguments import instance, number, numbers
+from .library import call
+from .refusal import demand
+
+Map = NDArray[np.float64]
 
 
 @dataclass(frozen=True)
@@ -18,64 +21,70 @@ class Line:
     direction: tuple[float, float]
 
 
-def square_to_quad(corners: ArrayLike) -> np.ndarray:
+def square_to_quad(corners: ArrayLike) -> Map:
     """The map of the unit square to four corners, as a 3 by 3 matrix for column vectors."""
     out = np.zeros(9)
-    demand(call("square_to_quad", floats(corners), out))
+    demand(call("square_to_quad", numbers("the corners", corners, 4, 2), out))
     return out.reshape(3, 3)
 
 
-def quad_to_quad(source: ArrayLike, target: ArrayLike) -> np.ndarray:
+def quad_to_quad(source: ArrayLike, target: ArrayLike) -> Map:
     """The map of one quadrilateral to another."""
     out = np.zeros(9)
-    demand(call("quad_to_quad", floats(source), floats(target), out))
+    demand(call("quad_to_quad", numbers("the source", source, 4, 2), numbers("the target", target, 4, 2), out))
     return out.reshape(3, 3)
 
 
 def map_point(map_: ArrayLike, u: float, v: float) -> tuple[float, float]:
     """Where a map sends the point u, v."""
     out = np.zeros(2)
-    call("map", floats(map_), u, v, out)
+    call("map", numbers("the map", map_, 3, 3), number("u", u), number("v", v), out)
     return float(out[0]), float(out[1])
 
 
-def scaled(sx: float, sy: float) -> np.ndarray:
+def scaled(sx: float, sy: float) -> Map:
     """The map that scales by sx and sy."""
     out = np.zeros(9)
-    call("scaled", sx, sy, out)
+    call("scaled", number("sx", sx), number("sy", sy), out)
     return out.reshape(3, 3)
 
 
-def inverse(map_: ArrayLike) -> np.ndarray:
+def inverse(map_: ArrayLike) -> Map:
     """The inverse of a map, up to a factor."""
     out = np.zeros(9)
-    call("inverse", floats(map_), out)
+    call("inverse", numbers("the map", map_, 3, 3), out)
     return out.reshape(3, 3)
 
 
-def then(inner: ArrayLike, outer: ArrayLike) -> np.ndarray:
+def then(inner: ArrayLike, outer: ArrayLike) -> Map:
     """The map that does the inner map first and then the outer."""
     out = np.zeros(9)
-    call("then", floats(inner), floats(outer), out)
+    call("then", numbers("the inner map", inner, 3, 3), numbers("the outer map", outer, 3, 3), out)
     return out.reshape(3, 3)
 
 
 def fit_line_tls_weighted(points: ArrayLike, weights: ArrayLike) -> Line:
     """The line through weighted points, by total least squares."""
-    places = np.asarray(points, dtype=np.float64).reshape(-1, 2)
+    places = numbers("the points", points, None, 2).reshape(-1, 2)
+    xs, ys = np.ascontiguousarray(places.T)
     out = np.zeros(4)
-    demand(call("fit_line_tls_weighted", floats(places[:, 0]), floats(places[:, 1]), floats(weights), out))
+    demand(call("fit_line_tls_weighted", xs, ys, numbers("the weights", weights, None), out))
     return Line((float(out[0]), float(out[1])), (float(out[2]), float(out[3])))
 
 
 def intersect_lines(first: Line, second: Line) -> tuple[float, float]:
     """Where two lines cross."""
     out = np.zeros(2)
-    demand(call("intersect_lines", floats((first.point, first.direction)),
-                floats((second.point, second.direction)), out))
+    demand(call("intersect_lines", _line("the first", first), _line("the second", second), out))
     return float(out[0]), float(out[1])
+
+
+def _line(what: str, line: Line) -> NDArray[np.float64]:
+    """A line as its list of four numbers."""
+    instance(what, line, Line)
+    return numbers(what, (line.point, line.direction), 2, 2)
 
 
 def sqrt(x: float) -> float:
     """The square root, rounded once."""
-    return call("sqrt", x)
+    return float(call("sqrt", number("x", x)))

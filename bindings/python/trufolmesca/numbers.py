@@ -59,18 +59,3 @@ WORDS: dict[int, str] = {
 def word_of(number: int) -> str:
     """A number in words."""
     return WORDS.get(number, f"number {number}, which this version does not know")
-
-
-class Refused(ValueError):
-    """A call that gave no answer; `number` and `word` say why."""
-
-    def __init__(self, number: int):
-        self.number = number
-        self.word = word_of(number)
-        super().__init__(f"refused by {number}: {self.word}")
-
-
-def demand(number: int) -> None:
-    """Raises Refused unless the number is that of an answer."""
-    if number != Number.ANSWER:
-        raise Refused(number)

@@ -1,14 +1,15 @@
-"""Photographs and cameras as the calls take them, and the calls that read one place or profile."""
+"""Cameras, and the calls that read one place or one profile of a photograph."""
 from __future__ import annotations
 
 from dataclasses import astuple, dataclass
 from enum import IntEnum
 
 import numpy as np
-from numpy.typing import ArrayLike
+from numpy.typing import ArrayLike, NDArray
 
-from .library import call, floats
-from .numbers import demand
+from .arguments import byte, flag, instance, number, numbers, photograph_arguments
+from .library import call
+from .refusal import demand
 
 
 @dataclass(frozen=True)
@@ -58,31 +59,21 @@ class EdgePoint:
     weight: float
 
 
-def pixels_of(picture: ArrayLike) -> np.ndarray:
-    """A grey picture of 8 bits as the calls read it; a TypeError where it is none."""
-    array = np.asarray(picture)
-    if array.ndim != 2 or array.dtype != np.uint8:
-        raise TypeError("a photograph is an array of rows and columns of uint8")
-    return np.ascontiguousarray(array)
-
-
-def lent(pixels: np.ndarray) -> tuple[np.ndarray, int, int, int]:
-    """The first arguments of a call over a photograph: bytes, width, height, stride."""
-    height, width = pixels.shape
-    return pixels, width, height, width
-
-
-def camera_arguments(camera: Camera) -> tuple[np.ndarray, bool]:
+def camera_arguments(camera: Camera) -> tuple[NDArray[np.float64], bool]:
     """A camera as its list of 13 numbers, and whether its lens counts."""
-    lens = camera.lens or Lens(0.0, 0.0, 0.0, 0.0, 0.0)
-    numbers = floats((*astuple(camera.source), *astuple(camera.rectified), *astuple(lens)))
-    return numbers, camera.lens is not None
+    instance("the camera", camera, Camera)
+    instance("the camera's source", camera.source, Intrinsics)
+    instance("the camera's rectified picture", camera.rectified, Intrinsics)
+    lens = Lens(0.0, 0.0, 0.0, 0.0, 0.0) if camera.lens is None else camera.lens
+    instance("the camera's lens", lens, Lens)
+    values = (*astuple(camera.source), *astuple(camera.rectified), *astuple(lens))
+    return numbers("the camera", values, 13), camera.lens is not None
 
 
 def rectified_to_source(camera: Camera, x: float, y: float) -> tuple[float, float]:
     """Where a place of the rectified picture lies in the photograph."""
     out = np.zeros(2)
-    demand(call("rectified_to_source", *camera_arguments(camera), x, y, out))
+    demand(call("rectified_to_source", *camera_arguments(camera), number("x", x), number("y", y), out))
     return float(out[0]), float(out[1])
 
 
@@ -90,29 +81,30 @@ def sample_bilinear(picture: ArrayLike, x: float, y: float, border: Border = Bor
                     constant: int = 0) -> float:
     """The value of a picture at x, y, between its four nearest pixels."""
     out = np.zeros(1)
-    demand(call("sample_bilinear", *lent(pixels_of(picture)), x, y, int(border), constant, out))
+    demand(call("sample_bilinear", *photograph_arguments(picture), number("x", x), number("y", y), int(Border(border)),
+                byte("the constant", constant), out))
     return float(out[0])
 
 
-def _profile(normal: tuple[float, float], step: float, polarity: tuple[bool, bool]) -> tuple:
-    """A profile's direction, step and polarity as the calls take them."""
-    return (*normal, step, *polarity)
+def _profile(place: ArrayLike, normal: ArrayLike, step: float, inverted: bool, inward_differs: bool) -> tuple[object, ...]:
+    """A profile as the calls take it: its place, direction, step and polarity."""
+    return (*numbers("the place", place, 2), *numbers("the normal", normal, 2), number("the step", step),
+            flag("inverted", inverted), flag("inward_differs", inward_differs))
 
 
-def localize_edge_point(picture: ArrayLike, place: tuple[float, float], normal: tuple[float, float],
-                        step: float, inverted: bool = False, inward_differs: bool = False) -> EdgePoint:
+def localize_edge_point(picture: ArrayLike, place: ArrayLike, normal: ArrayLike, step: float,
+                        inverted: bool = False, inward_differs: bool = False) -> EdgePoint:
     """The point of an edge along its normal, near a place of the photograph."""
     out = np.zeros(3)
-    demand(call("localize_edge_point", *lent(pixels_of(picture)), *place,
-                *_profile(normal, step, (inverted, inward_differs)), out))
+    demand(call("localize_edge_point", *photograph_arguments(picture),
+                *_profile(place, normal, step, inverted, inward_differs), out))
     return EdgePoint(*out.tolist())
 
 
-def localize_edge_point_mapped(picture: ArrayLike, camera: Camera, place: tuple[float, float],
-                               normal: tuple[float, float], step: float, inverted: bool = False,
-                               inward_differs: bool = False) -> EdgePoint:
+def localize_edge_point_mapped(picture: ArrayLike, camera: Camera, place: ArrayLike, normal: ArrayLike, step: float,
+                               inverted: bool = False, inward_differs: bool = False) -> EdgePoint:
     """The same through a camera: place, normal and answer are of the rectified picture."""
     out = np.zeros(3)
-    demand(call("localize_edge_point_mapped", *lent(pixels_of(picture)), *place,
-                *_profile(normal, step, (inverted, inward_differs)), *camera_arguments(camera), out))
+    demand(call("localize_edge_point_mapped", *photograph_arguments(picture),
+                *_profile(place, normal, step, inverted, inward_differs), *camera_arguments(camera), out))
     return EdgePoint(*out.tolist())

@@ -2,13 +2,17 @@
 from __future__ import annotations
 
 from dataclasses import dataclass
+from typing import Any
 
 import numpy as np
-from numpy.typing import ArrayLike
+from numpy.typing import ArrayLike, NDArray
 
-from .library import call, floats
-from .numbers import Number, Refused, word_of
-from .photograph import Camera, camera_arguments, lent, pixels_of
+from .arguments import flag, modules_and_dimension, numbers, photograph_arguments
+from .library import call
+from .photograph import Camera, camera_arguments
+from .refusal import Marks, demand
+
+Flags = tuple[bool, bool, bool, bool]
 
 
 @dataclass(frozen=True)
@@ -21,96 +25,74 @@ class Edge:
     valid: bool
 
 
-@dataclass(frozen=True)
+@dataclass(frozen=True, eq=False)
 class Answer:
-    """A refinement's answer. Corners are in the photograph's pixels, through a camera in rectified ones."""
+    """A refinement's answer.
 
-    number: int
-    corners: np.ndarray
-    refined: tuple[bool, bool, bool, bool]
-    edges: tuple[Edge, Edge, Edge, Edge]
-
-    @property
-    def word(self) -> str:
-        """The answer's number in words."""
-        return word_of(self.number)
-
-    def demanded(self) -> "Answer":
-        """The answer itself, or Refused where the number is not 0."""
-        if self.number != Number.ANSWER:
-            raise Refused(self.number)
-        return self
-
-
-@dataclass(frozen=True)
-class Marked(Answer):
-    """An answer with its sheet (1 where a pixel was read) and its copy (the others painted over).
-
-    Both are None where the call was refused by 1 to 7, before it read a pixel.
+    corners  4 by 2, in the photograph's pixels, through a camera in rectified ones
+    refined  for each corner whether it was refined, or is as rough as it came
+    edges    of the top, the right, the bottom and the left edge
     """
 
-    sheet: np.ndarray | None
-    copy: np.ndarray | None
+    corners: NDArray[np.float64]
+    refined: Flags
+    edges: tuple[Edge, Edge, Edge, Edge]
 
 
-def _label(modules: ArrayLike, corners: ArrayLike, scale: tuple[float, float], inverted: bool) -> tuple:
+@dataclass(frozen=True, eq=False)
+class Marked(Answer):
+    """An answer with the sheet and the copy of the photograph."""
+
+    marks: Marks
+
+
+def _label(modules: ArrayLike, corners: ArrayLike, scale: ArrayLike, inverted: bool) -> tuple[object, ...]:
     """The arguments of a call that tell of the label: modules, dimension, scales, corners, polarity."""
-    grid = np.asarray(modules)
-    if grid.ndim != 2 or grid.shape[0] != grid.shape[1]:
-        raise TypeError("the modules are an array of as many rows as columns")
-    cells = np.where((grid == 0) | (grid == 1), grid, 2).astype(np.uint8)
-    return np.ascontiguousarray(cells), grid.shape[0], *scale, floats(corners), bool(inverted)
+    return (*modules_and_dimension(modules), *numbers("the scale", scale, 2), numbers("the corners", corners, 4, 2),
+            flag("inverted", inverted))
 
 
-def _run(name: str, arguments: tuple, *marks: np.ndarray) -> dict:
-    """Calls a refinement and gives the fields of its answer."""
+def _refined(name: str, *arguments: object, marks: Marks | None = None) -> dict[str, Any]:
+    """Calls a refinement, lends it sheet and copy if it marks, and gives the fields of its answer."""
     places, counts = np.zeros(8), np.zeros(20, np.uint32)
-    number = int(call(name, *arguments, places, counts, *marks))
+    lent = () if marks is None else (marks.sheet, marks.copy)
+    demand(call(name, *arguments, places, counts, *lent), marks)
     rows = counts[:16].reshape(4, 4).tolist()
     return {
-        "number": number,
         "corners": places.reshape(4, 2),
-        "refined": tuple(bool(flag) for flag in counts[16:]),
+        "refined": tuple(bool(one) for one in counts[16:]),
         "edges": tuple(Edge(probed, fit, dropped, bool(valid)) for probed, fit, dropped, valid in rows),
     }
 
 
-def _run_marking(name: str, arguments: tuple, shape: tuple[int, int]) -> Marked:
-    """Calls a marking refinement, lending it sheet and copy."""
-    sheet, copy = np.zeros(shape, np.uint8), np.zeros(shape, np.uint8)
-    fields = _run(name, arguments, sheet, copy)
-    if Number.SIZE <= fields["number"] <= Number.SHEET:
-        return Marked(**fields, sheet=None, copy=None)
-    return Marked(**fields, sheet=sheet, copy=copy)
+def _marked(name: str, picture: ArrayLike, *arguments: object) -> Marked:
+    """Calls a refinement that marks, with a sheet and a copy that nobody else has."""
+    pixels, width, height, stride = photograph_arguments(picture)
+    marks = Marks(np.zeros((height, width), np.uint8), np.zeros((height, width), np.uint8))
+    return Marked(**_refined(name, pixels, width, height, stride, *arguments, marks=marks), marks=marks)
 
 
 def refine_corners(picture: ArrayLike, modules: ArrayLike, corners: ArrayLike, *,
-                   scale: tuple[float, float] = (1.0, 1.0), inverted: bool = False) -> Answer:
+                   scale: ArrayLike = (1.0, 1.0), inverted: bool = False) -> Answer:
     """A label's corners, refined on the photograph."""
-    arguments = (*lent(pixels_of(picture)), *_label(modules, corners, scale, inverted))
-    return Answer(**_run("refine_corners", arguments))
+    return Answer(**_refined("refine_corners", *photograph_arguments(picture), *_label(modules, corners, scale, inverted)))
 
 
 def refine_corners_mapped(picture: ArrayLike, modules: ArrayLike, corners: ArrayLike, camera: Camera, *,
-                          scale: tuple[float, float] = (1.0, 1.0), inverted: bool = False) -> Answer:
+                          scale: ArrayLike = (1.0, 1.0), inverted: bool = False) -> Answer:
     """The same through a camera: corners and answer are of the rectified picture."""
-    label = _label(modules, corners, scale, inverted)
-    arguments = (*lent(pixels_of(picture)), *label, *camera_arguments(camera))
-    return Answer(**_run("refine_corners_mapped", arguments))
+    return Answer(**_refined("refine_corners_mapped", *photograph_arguments(picture), *_label(modules, corners, scale, inverted),
+                             *camera_arguments(camera)))
 
 
 def refine_corners_marking(picture: ArrayLike, modules: ArrayLike, corners: ArrayLike, *,
-                           scale: tuple[float, float] = (1.0, 1.0), inverted: bool = False) -> Marked:
+                           scale: ArrayLike = (1.0, 1.0), inverted: bool = False) -> Marked:
     """A label's corners, with the sheet of what was read and the blanked copy."""
-    pixels = pixels_of(picture)
-    arguments = (*lent(pixels), *_label(modules, corners, scale, inverted))
-    return _run_marking("refine_corners_marking", arguments, pixels.shape)
+    return _marked("refine_corners_marking", picture, *_label(modules, corners, scale, inverted))
 
 
 def refine_corners_mapped_marking(picture: ArrayLike, modules: ArrayLike, corners: ArrayLike, camera: Camera, *,
-                                  scale: tuple[float, float] = (1.0, 1.0), inverted: bool = False) -> Marked:
+                                  scale: ArrayLike = (1.0, 1.0), inverted: bool = False) -> Marked:
     """The same through a camera; sheet and copy are of the photograph."""
-    pixels = pixels_of(picture)
-    label = _label(modules, corners, scale, inverted)
-    arguments = (*lent(pixels), *label, *camera_arguments(camera))
-    return _run_marking("refine_corners_mapped_marking", arguments, pixels.shape)
+    return _marked("refine_corners_mapped_marking", picture, *_label(modules, corners, scale, inverted),
+                   *camera_arguments(camera))
