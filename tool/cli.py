@@ -10,7 +10,7 @@ from pathlib import Path
 import numpy as np
 from trufolmesca import LibraryMissing, load_library
 
-from tool import VERSION, Unanswered, reason
+from tool import Unanswered, reason
 from tool.camera import read_camera
 from tool.many import measure_many, write_summary
 from tool.measure import Options
@@ -124,7 +124,6 @@ def parser() -> argparse.ArgumentParser:
     """The command line's words."""
     raw = argparse.RawDescriptionHelpFormatter
     words = _Parser(prog="trufolmesca", description=DESCRIPTION, formatter_class=raw)
-    words.add_argument("--version", action="version", version=f"%(prog)s {VERSION}")
     commands = words.add_subparsers(dest="command", required=True, metavar="measure | verify | report")
     _measure_words(commands.add_parser("measure", help="measure the labels of photographs", description=MEASURE,
                                        epilog=MEASURE_STATUS, formatter_class=raw))
