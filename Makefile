@@ -32,7 +32,7 @@ $(LIB)/libtrufolmesca.a: $(ARCHIVE) | $(LIB)
 	mv $@.new $@
 
 $(OBJECT): $(ARCHIVE) packaging/libtrufolmesca.map Makefile | $(LIB)
-	$(CC) -shared -o $@.new -Wl,-soname,$(SONAME) -Wl,--version-script,packaging/libtrufolmesca.map \
+	$(CC) -shared -s -o $@.new -Wl,-soname,$(SONAME) -Wl,--version-script,packaging/libtrufolmesca.map \
 	    -Wl,--whole-archive $< -Wl,--no-whole-archive -Wl,-z,defs,-z,relro,-z,now $(LDFLAGS) -lc
 	mv $@.new $@
 
