@@ -30,7 +30,8 @@ def make(*words: object) -> subprocess.CompletedProcess:
 
 def plain(**more: object) -> dict[str, str]:
     """The environment without what would lead a program to the library, or a make to the options of another."""
-    dropped = {"TRUFOLMESCA_LIBRARY", "LD_LIBRARY_PATH", "PYTHONPATH", "PYTHONDONTWRITEBYTECODE", "MAKEFLAGS", "MAKELEVEL", "PKG_CONFIG_PATH"}
+    dropped = {"TRUFOLMESCA_LIBRARY", "LD_LIBRARY_PATH", "PYTHONPATH", "PYTHONDONTWRITEBYTECODE", "PKG_CONFIG_PATH",
+               "MAKEFLAGS", "MAKELEVEL", "SOURCE_DATE_EPOCH"}
     kept = {name: value for name, value in os.environ.items() if name not in dropped}
     return {**kept, **{name: str(value) for name, value in more.items()}}
 

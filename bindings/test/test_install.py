@@ -76,7 +76,8 @@ def test_by_cmake(prefix, tmp_path):
 def test_the_version_that_cmake_asks_for(prefix, tmp_path, asked, suits):
     major, minor = asked.split(".")[:2]
     script = tmp_path / "asks.cmake"
-    script.write_text(f'set(PACKAGE_FIND_VERSION {asked})\nset(PACKAGE_FIND_VERSION_MAJOR {major})\nset(PACKAGE_FIND_VERSION_MINOR {minor})\n'
+    script.write_text(f'set(PACKAGE_FIND_VERSION {asked})\n'
+                      f'set(PACKAGE_FIND_VERSION_MAJOR {major})\nset(PACKAGE_FIND_VERSION_MINOR {minor})\n'
                       f'include({prefix}/lib/cmake/trufolmesca/trufolmescaConfigVersion.cmake)\n'
                       'message("${PACKAGE_VERSION} ${PACKAGE_VERSION_COMPATIBLE}")\n')
     assert run("cmake", "-P", script).stderr.split() == [(ROOT / "VERSION").read_text().strip(), str(suits).upper()]
