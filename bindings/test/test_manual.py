@@ -22,7 +22,7 @@ def test_formatters_find_no_fault(page):
 
 def test_the_page_has_every_call_of_the_header():
     header = re.sub(r"/\*.*?\*/", "", (ROOT / "bindings/trufolmesca.h").read_text(), flags=re.S)
-    declared = dict(re.findall(r"\b(trufolmesca_\w+)\(([^()]*)\)\s*[;{]", header))
+    declared = dict(re.findall(r"\b(?:uint32_t |void |double |char \*)(trufolmesca_\w+)\(([^()]*)\)\s*[;{]", header))
     page = MANUAL.read_text()
     named = re.findall(r"^\.Nm (trufolmesca_\w+)", page.split(".Nd ")[0], re.M)
     inner = {"trufolmesca_lists_of", "trufolmesca_answer_of"}

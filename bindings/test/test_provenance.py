@@ -11,13 +11,17 @@ from installing import ROOT, plain, run, said
 
 KIT = (ROOT / "TOOLCHAIN").read_text().strip()
 
-# Stands in for rt: says that it is $KIT, notes each call, and builds an archive of the text $ARCHIVE, or fails where that is empty.
+# Stands in for rt: says that it is $KIT, notes each call, and builds an archive of the text $BYTES, or fails where that is empty.
 RT = """\
 #!/bin/sh
 echo "$*" >>"$CALLS"
 case $1 in
     version) echo "$KIT" ;;
-    staticlib) [ -n "$ARCHIVE" ] || { echo "a proof fails"; exit 1; }; mkdir -p target/staticlib; eval "echo $ARCHIVE" >target/staticlib/libexport.a ;;
+    staticlib)
+        [ -n "$BYTES" ] || { echo "a proof fails"; exit 1; }
+        mkdir -p target/staticlib
+        eval "echo $BYTES" >target/staticlib/libexport.a
+        ;;
 esac
 """
 
@@ -63,7 +67,7 @@ class Repository:
     """A small repository with the build's own files, a source, and a kit that only says what it is told to."""
 
     def __init__(self, home: Path):
-        self.home, self.calls, self.kit, self.archive = home / "repository", home / "calls", KIT, "archive"
+        self.home, self.calls, self.kit, self.bytes = home / "repository", home / "calls", KIT, "archive"
         for name in ("Makefile", "VERSION", "TOOLCHAIN", "tools/archive", "tools/reproduce"):
             (self.home / name).parent.mkdir(parents=True, exist_ok=True)
             shutil.copy(ROOT / name, self.home / name)
@@ -80,7 +84,7 @@ class Repository:
     def run(self, *words: object):
         """Runs a command in the repository, with the kit before all others."""
         self.calls.write_text("")
-        known = plain(PATH=f"{self.commands}:{os.environ['PATH']}", KIT=self.kit, CALLS=self.calls, ARCHIVE=self.archive)
+        known = plain(PATH=f"{self.commands}:{os.environ['PATH']}", KIT=self.kit, CALLS=self.calls, BYTES=self.bytes)
         return run(*words, cwd=self.home, env=known)
 
     def built(self) -> bool:
@@ -111,7 +115,7 @@ def test_another_kit_is_refused(repository):
 
 
 def test_a_kit_that_is_missing_or_fails_is_said(repository):
-    repository.archive = ""
+    repository.bytes = ""
     done = repository.run("make", "archive")
     assert done.returncode != 0 and "a proof fails" in done.stderr and "target/lib/archive.log has it all" in done.stderr
     (repository.commands / "rt").unlink()
@@ -121,12 +125,12 @@ def test_a_kit_that_is_missing_or_fails_is_said(repository):
     assert done.returncode != 0 and "rt is not there" in done.stderr
 
 
-@pytest.mark.parametrize("archive, same", [("archive", True), ("$PWD", False)], ids=["the same", "with its path in it"])
-def test_two_builds_are_compared(repository, archive, same):
+@pytest.mark.parametrize("contents, same", [("archive", True), ("$PWD", False)], ids=["the same", "with its path in it"])
+def test_two_builds_are_compared(repository, contents, same):
     by = ("-c", "user.name=test", "-c", "user.email=test@example.org")
     for words in (("init", "-q"), ("add", "."), (*by, "commit", "-qm", "all")):
         assert repository.run("git", *words).returncode == 0
-    repository.archive = archive
+    repository.bytes = contents
     done = repository.run("tools/reproduce")
     assert (done.returncode == 0) == same and repository.calls.read_text().count("staticlib export") == 2, done.stderr
     assert re.search(r"^archive  sha256 [0-9a-f]{64}$", done.stdout, re.M) and KIT in done.stdout
