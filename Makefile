@@ -5,7 +5,8 @@ LIBDIR = $(PREFIX)/lib
 DESTDIR =
 
 VERSION := $(file <VERSION)
-SONAME := libtrufolmesca.so.$(firstword $(subst ., ,$(VERSION)))
+# The soname's number goes up with every change that a linked program would notice.
+SONAME := libtrufolmesca.so.0
 # What rt proves and builds, and what of the sources it is made from.
 ARCHIVE := target/staticlib/libexport.a
 SOURCES := crates.txt $(shell find crates -name '*.rt' -o -name '*.antt')
