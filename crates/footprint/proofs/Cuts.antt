@@ -14,7 +14,7 @@ use Rattle.prelude.proofs.Tests.{neither-left, neither-right}
 use Rattle.prelude.specs.Prelude.{if_then_else_}
 use Rattle.ieee.specs.Parts.{isFinite}
 use Rattle.ieee.proofs.Order.{not-itself}
-use Rattle.ieee.proofs.WholeGuess.{float-value, float-finite}
+use Rattle.ieee_whole.proofs.WholeGuess.{float-value, float-finite}
 use Rattle.ieee.specs.Floats.{_≺_, f0, float, wholePart}
 use Rattle.pixel.specs.declared.SourcePixel.{SourcePixel}
 use Rattle.camera.specs.declared.SourcePoint.{SourcePoint}

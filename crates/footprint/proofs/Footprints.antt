@@ -11,7 +11,7 @@ use Rattle.prelude.specs.Prelude.{if_then_else_}
 use Rattle.ieee.specs.Parts.{isFinite}
 use Rattle.ieee.specs.Floats.{_≺_, _≼_, f0, float}
 use Rattle.ieee.proofs.Order.{not-more, else-more, amid-finite}
-use Rattle.ieee.proofs.WholeGuess.{float-finite}
+use Rattle.ieee_whole.proofs.WholeGuess.{float-finite}
 use Rattle.pixel.specs.declared.SourcePixel.{SourcePixel}
 use Rattle.camera.specs.declared.CameraCalibration.{CameraCalibration}
 use Rattle.camera.specs.declared.SourcePoint.{SourcePoint}

@@ -85,8 +85,8 @@ fn clamp(x: f64, most: f64) -> f64
 fn interior_cell(width: u32, height: u32, x: f64, y: f64) -> Footprint
     ensures { λ r. ⌜ r ≡ interiorCell width height x y ⌝ }
 {
-    let across = ieee::split_whole(x);
-    let down = ieee::split_whole(y);
+    let across = ieee_whole::split_whole(x);
+    let down = ieee_whole::split_whole(y);
     Footprint::Cell {
         x0: across.whole,
         y0: down.whole,

@@ -1,17 +1,9 @@
--- The theorems of `ieee`, and under them what the functions' proofs cite. Assumes nothing.
+-- What the functions' proofs of `ieee` and the crates above cite. Assumes nothing.
 
--- a theorem to be read alone
-pub mod WholeExact
 -- the definitions at some values
 pub mod Examples
 pub mod Patterns
 pub mod Order
--- whole numbers
-pub mod Whole
-pub mod AtMost
-pub mod WholeLaws
-pub mod Trimmed
-pub mod WholeGuess
 pub mod Larger
 -- the definitions opened together
 pub mod Opened

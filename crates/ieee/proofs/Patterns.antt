@@ -1,13 +1,15 @@
--- Bit patterns of binary64: NaN tests, and what clearing the sign bit does. Assumes nothing.
+-- Bit patterns of binary64: NaN tests, what clearing the sign bit does, and what the format allows. Assumes nothing.
 use mathlib.Core.Path.{_≡_, refl, sym, ap, _∙_, subst}
-use mathlib.Core.Bool.{Bool, true, false, not, cond, true≢false}
-use Prim.Native.Nat.{ℕ, zero, suc, _+_, _-_, _/_, _%_, _^_, _≤_, _<_}
+use mathlib.Core.Bool.{Bool, true, false, not, _&&_, cond, true≢false}
+use Prim.Native.Nat.{ℕ, zero, suc, _+_, _-_, _*_, _/_, _%_, _^_, _≤_, _<_}
 use native.Mathlib.Nat.{mod-lt, mod-eq-of-lt, not-le-of-lt}
 use native.Mathlib.Omega.{arith}
 use lib.Dec.{T, leb, ltb, eqb, leb→le, ltb→lt, lt→ltb, not-T, eqb→eq}
+use lib.IntN.{ℤ, pos}
 use lib.Pow.{pow-pos, mod-mod-pow}
 use lib.Bits.{bitAnd, and-mask}
-use lib.Ieee.{Float, nan, inf, fin, binary64, odd, ofFields, ofBits, toBits, nanBits, isNan, ne, div}
+use lib.Ieee.{Float, nan, inf, fin, binary64, up, down, odd, fits, ofFields, ofBits, toBits, nanBits, isNan, ne, div}
+use lib.Ieee.Fits.{and-l, and-r}
 use lib.Ieee.Bits.{nanBits-is, nanBits-above, is-false}
 use Rattle.ieee.specs.Parts.{magnitude, isFinite}
 
@@ -34,7 +36,12 @@ equals-itself nan h = absurd (true≢false h)
 equals-itself (inf s) h = tt
 equals-itself (fin s m e) h = tt
 
--- 0.0 / 0.0 as MIR has it, with 0.0 by its bit pattern
+-- 0.0 by its bit pattern, as MIR has it
+pub zero-is : ofBits binary64 0 ≡ fin false 0 (pos 0)
+unfolding ofBits
+zero-is = refl
+
+-- 0.0 / 0.0 as MIR has it
 pub zero-by-zero : div binary64 (ofBits binary64 0) (ofBits binary64 0) ≡ nan
 unfolding div ofBits
 zero-by-zero = refl
@@ -133,3 +140,18 @@ finite-bits b =
 
     over : (a : ℕ) → a < 2 ^ 63 → (a / 2 ^ 52 ≡ 2047 → ⊥) → a < 0x7ff0_0000_0000_0000
     over a h n = omega arith
+
+-- ---- the values of the format
+
+-- what the format allows of a number that is not 0
+pub fits-says : (s : Bool) (m : ℕ) (e : ℤ) → T (fits binary64 (fin s (suc m) e)) → (suc m < 2 ^ 53) × (down e ≤ 2 ^ 1074) × (suc m * up e < 2 ^ 1024 * down e)
+unfolding fits
+fits-says s m e t =
+    let a : Bool = eqb (suc m % 2) 1 in
+    let b : Bool = ltb (suc m) (2 ^ 53) in
+    let c : Bool = leb (down e) (2 ^ 1074) in
+    let d : Bool = ltb (suc m * up e) (2 ^ 1024 * down e) in (
+      ltb→lt (suc m) (2 ^ 53) (and-r a b (and-l (a && b) c (and-l (a && b && c) d t))),
+      leb→le (down e) (2 ^ 1074) (and-r (a && b) c (and-l (a && b && c) d t)),
+      ltb→lt (suc m * up e) (2 ^ 1024 * down e) (and-r (a && b && c) d t),
+    )

@@ -1,16 +1,9 @@
 // IEEE 754's binary64, worked out from bit patterns. A value is the logic's `Float` (specs/), of which
 // each contract names the definition that its result equals. No function asks anything of its caller.
 ghost use mathlib.Core.Path.{_≡_};
-ghost use mathlib.Core.Bool.{true, _&&_};
-ghost use lib.Ieee.{binary64, toBits, ofBits, toUnsigned};
-ghost use Rattle.ieee.specs.Floats.{f0, _≼_};
-ghost use Rattle.ieee.specs.Parts.{magnitude, isFinite, floorOf, ceilOf, maximum, splitWhole};
-
-// A value's whole part, and what is left of it: its fraction, where the value is in the range of the whole part.
-pub struct Split {
-    pub whole: u32,
-    pub left: f64,
-}
+ghost use mathlib.Core.Bool.{_&&_};
+ghost use lib.Ieee.{binary64, toBits, ofBits};
+ghost use Rattle.ieee.specs.Parts.{magnitude, isFinite, maximum};
 
 // x's bit pattern. Every NaN has the pattern 0x7ff8000000000000.
 pub fn bits_of(x: f64) -> u64
@@ -76,82 +69,4 @@ pub fn max(a: f64, b: f64) -> f64
         return b;
     }
     a
-}
-
-// The largest whole number that is at most x.
-pub fn floor(x: f64) -> f64
-    ensures { λ r. ⌜ r ≡ floorOf x ⌝ }
-{
-    let a = abs(x);
-    if a < 9007199254740992.0 {
-        let n = std::num::truncating_f64_to_u64(a);
-        let w = n as f64;
-        if w == a {
-            return x;
-        }
-        if x < 0.0 {
-            return -((n + 1) as f64);
-        }
-        return w;
-    }
-    x
-}
-
-// The smallest whole number that is at least x.
-pub fn ceil(x: f64) -> f64
-    ensures { λ r. ⌜ r ≡ ceilOf x ⌝ }
-{
-    -floor(-x)
-}
-
-// A first guess at x without its fraction, right in most runs but not by proof: `whole_part` tests it. The sum has no
-// room for a fraction and is rounded to the nearest whole number; the half that 2^52 lacks makes that the one below x.
-fn whole_guess(x: f64) -> u32
-    requires { ⌜ (f0 ≼ x) ≡ true ⌝ }
-{
-    (f64::to_bits(x + 4503599627370495.5) & 0xffff_ffff) as u32
-}
-
-// x without its fraction, by the digits of its bit pattern.
-fn whole_digits(x: f64) -> u32
-    requires { ⌜ (f0 ≼ x) ≡ true ⌝ }
-    ensures { λ r. ⌜ r ≡ toUnsigned 32 x ⌝ }
-{
-    if x > 4294967295.0 {
-        return 4294967295;
-    }
-    std::num::truncating_f64_to_u64(x) as u32
-}
-
-// x's whole part and what is left of x. The test of the guess has worked out what is left already.
-pub fn split_whole(x: f64) -> Split
-    ensures { λ r. ⌜ r ≡ splitWhole x ⌝ }
-{
-    if x >= 0.0 {
-        let guess = whole_guess(x);
-        let left = x - guess as f64;
-        if guess as f64 <= x {
-            if left < 1.0 {
-                return Split { whole: guess, left };
-            }
-        }
-        let whole = whole_digits(x);
-        return Split {
-            whole,
-            left: x - whole as f64,
-        };
-    }
-    let none: u32 = 0;
-    Split {
-        whole: none,
-        left: x - none as f64,
-    }
-}
-
-// x without its fraction: Rust's `x as u32`. Beyond either end of the range it is that end, and 0
-// for a NaN.
-pub fn whole_part(x: f64) -> u32
-    ensures { λ r. ⌜ r ≡ toUnsigned 32 x ⌝ }
-{
-    split_whole(x).whole
 }

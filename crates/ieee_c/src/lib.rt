@@ -1,7 +1,8 @@
 // `ieee` for programs in C: bench/ieee times it.
 ghost use mathlib.Core.Path.{_≡_};
 ghost use lib.Ieee.{binary64, toBits, ofBits, toUnsigned};
-ghost use Rattle.ieee.specs.Parts.{magnitude, isFinite, maximum, floorOf, ceilOf};
+ghost use Rattle.ieee.specs.Parts.{magnitude, isFinite, maximum};
+ghost use Rattle.ieee_whole.specs.Whole.{floorOf, ceilOf};
 ghost use Rattle.ieee_root.specs.Root.{root};
 
 // `ieee::bits_of` for C.
@@ -44,20 +45,20 @@ pub extern "C" fn ieee_max(a: f64, b: f64) -> f64
     ieee::max(a, b)
 }
 
-// `ieee::floor` for C.
+// `ieee_whole::floor` for C.
 #[no_mangle]
 pub extern "C" fn ieee_floor(x: f64) -> f64
     ensures { λ r. ⌜ r ≡ floorOf x ⌝ }
 {
-    ieee::floor(x)
+    ieee_whole::floor(x)
 }
 
-// `ieee::ceil` for C.
+// `ieee_whole::ceil` for C.
 #[no_mangle]
 pub extern "C" fn ieee_ceil(x: f64) -> f64
     ensures { λ r. ⌜ r ≡ ceilOf x ⌝ }
 {
-    ieee::ceil(x)
+    ieee_whole::ceil(x)
 }
 
 // `ieee_root::sqrt` for C.
@@ -68,10 +69,10 @@ pub extern "C" fn ieee_sqrt(x: f64) -> f64
     ieee_root::sqrt(x)
 }
 
-// `ieee::whole_part` for C.
+// `ieee_whole::whole_part` for C.
 #[no_mangle]
 pub extern "C" fn ieee_whole_part(x: f64) -> u32
     ensures { λ r. ⌜ r ≡ toUnsigned 32 x ⌝ }
 {
-    ieee::whole_part(x)
+    ieee_whole::whole_part(x)
 }

@@ -16,7 +16,7 @@ use lib.Ieee.{Float, nan, inf, fin, binary64, up, down, units, fits, toBits}
 use lib.Ieee.Exact.{HasValue}
 use lib.Ieee.Fits.{down-pos, and-l, and-r}
 use lib.Ieee.Positive.{positive, above, value-pos}
-use Rattle.ieee.proofs.Whole.{fits-says}
+use Rattle.ieee.proofs.Patterns.{fits-says}
 use Rattle.ieee_root.specs.Root.{root, rootBy, rootUnits, NearRoot}
 use Rattle.ieee_root.proofs.Inputs.{Reading, subnormal, normal, infinite, reading, root-of-value, digits-between, lifted, lifted-same}
 use Rattle.ieee_root.proofs.Roots.{square-twice, square-next, square-middle, square-mono, Floor, rootBy-is, root-units, units-value, units-fits}

@@ -47,12 +47,12 @@ fn print_answers(before: f64, b: u64) {
     io::print_hex(1, b, 16);
     print_bits(x);
     print_bits(ieee_root::sqrt(x));
-    print_bits(ieee::floor(x));
-    print_bits(ieee::ceil(x));
+    print_bits(ieee_whole::floor(x));
+    print_bits(ieee_whole::ceil(x));
     print_bits(ieee::abs(x));
     print_bits(ieee::max(before, x));
     print_number(if ieee::is_finite(x) { 1 } else { 0 });
-    print_number(ieee::whole_part(x) as u64);
+    print_number(ieee_whole::whole_part(x) as u64);
     io::write_all(1, b"\n");
 }
 

@@ -7,8 +7,7 @@ use lib.Count.{leadingZeros}
 use lib.Ieee.{Float, binary64, fits, toBits, lt, eq}
 use lib.Ieee.Positive.{above}
 use Rattle.ieee_root.specs.Root.{root, rootUnits}
-use Rattle.ieee.proofs.Patterns.{yes, zero-by-zero}
-use Rattle.ieee.proofs.Whole.{zero-is}
+use Rattle.ieee.proofs.Patterns.{yes, zero-is, zero-by-zero}
 use Rattle.ieee_root.proofs.Inputs.{above-zero, not-nan, root-zero, root-none, small-root, infinite-root, normal-root, digits-are, digits-between, Lifted, lifted, lifted-same}
 use Rattle.ieee_root.proofs.sqrt.Statement.{statement}
 use Rattle.ieee_root.proofs.sqrt.Tie as tie

@@ -13,10 +13,11 @@ use lib.Ieee.{Float, fin, binary64, up, down, round, fits, nan, inf, lt, eq, le}
 use lib.Ieee.Fits.{down-pos, round-fits}
 use lib.Ieee.Exact.{HasValue}
 use lib.Ieee.Back.{round-whole}
-use Rattle.ieee.specs.Parts.{floorDiv, ceilDiv, floorOf, ceilOf}
-use Rattle.ieee.proofs.Whole.{fits-says, large-is, raised-one}
+use Rattle.ieee_whole.specs.Whole.{floorDiv, ceilDiv, floorOf, ceilOf}
+use Rattle.ieee.proofs.Patterns.{fits-says}
+use Rattle.ieee_whole.proofs.Whole.{large-is, raised-one}
 use Rattle.ieee.specs.Floats.{_≼_}
-use Rattle.ieee.proofs.AtMost.{AtMost, tested, test, scale, cancel}
+use Rattle.ieee_whole.proofs.AtMost.{AtMost, tested, test, scale, cancel}
 
 -- ---- a / c cut and raised
 

@@ -1,10 +1,10 @@
--- `ieee::split_whole` meets its contract: a guess that passes the test, the digits where it does not, and below 0 or a NaN. Assumes nothing.
+-- `ieee_whole::split_whole` meets its contract: a guess that passes the test, the digits where it does not, and below 0 or a NaN. Assumes nothing.
 use native.Mathlib.Omega.{arith}
-use Rattle.ieee.proofs.Trimmed.{nothing}
-use Rattle.ieee.proofs.WholeGuess.{accepted, split-at}
+use Rattle.ieee_whole.proofs.Trimmed.{nothing}
+use Rattle.ieee_whole.proofs.WholeGuess.{accepted, split-at}
 use borrow.Author.Needs.{needs}
-use Rattle.ieee.proofs.split_whole.Statement.{statement}
-use Rattle.ieee.proofs.split_whole.Tie as tie
+use Rattle.ieee_whole.proofs.split_whole.Statement.{statement}
+use Rattle.ieee_whole.proofs.split_whole.Tie as tie
 
 whole-guess-requires : tie.Need-whole-guess-requires
 whole-guess-requires c κs = search needs

@@ -13,10 +13,11 @@ use lib.Ieee.Back.{round-whole}
 use lib.Ieee.Order.{round-mono}
 use lib.Ieee.Fits.{down-pos}
 use borrow.Author.Tests.{ltb-true, ltb-false, le-ltb}
 use Rattle.ieee.specs.Floats.{_⊖_, _≺_, _≼_, f1, float}
-use Rattle.ieee.specs.Parts.{isFinite, splitWhole}
-use Rattle.ieee.specs.declared.Split.{Split}
+use Rattle.ieee.specs.Parts.{isFinite}
+use Rattle.ieee_whole.specs.Whole.{splitWhole}
+use Rattle.ieee_whole.specs.declared.Split.{Split}
 use Rattle.ieee.proofs.Order.{at-most, gone, zeros, not-more}
 
 -- a whole number below 2 to the 53 is a float of that value
 pub float-value : (n : ℕ) → n < 2 ^ 53 → HasValue (float n) false n 1

@@ -1,11 +1,11 @@
--- `ieee::whole_guess` meets its contract: the sum is a number, and the mask leaves 32 digits. Assumes nothing.
+-- `ieee_whole::whole_guess` meets its contract: the sum is a number, and the mask leaves 32 digits. Assumes nothing.
 use borrow.Author.Needs.{needs}
 use native.Mathlib.Omega.{arith}
 use lib.Bits.{and-mask}
 use lib.Ieee.{binary64, add, ofBits, toBits}
-use Rattle.ieee.proofs.Trimmed.{sum-is-number}
-use Rattle.ieee.proofs.whole_guess.Statement.{statement}
-use Rattle.ieee.proofs.whole_guess.Tie as tie
+use Rattle.ieee_whole.proofs.Trimmed.{sum-is-number}
+use Rattle.ieee_whole.proofs.whole_guess.Statement.{statement}
+use Rattle.ieee_whole.proofs.whole_guess.Tie as tie
 
 float-to-bits-result : tie.Need-float-to-bits-result
 unfolding ofBits

@@ -1,9 +1,9 @@
--- `ieee::whole_digits` meets its contract: above the range, and within it. Assumes nothing.
+-- `ieee_whole::whole_digits` meets its contract: above the range, and within it. Assumes nothing.
 use mathlib.Core.Path.{_∙_}
 use native.Mathlib.Omega.{arith}
-use Rattle.ieee.proofs.Trimmed.{capped, between}
-use Rattle.ieee.proofs.whole_digits.Statement.{statement}
-use Rattle.ieee.proofs.whole_digits.Tie as tie
+use Rattle.ieee_whole.proofs.Trimmed.{capped, between}
+use Rattle.ieee_whole.proofs.whole_digits.Statement.{statement}
+use Rattle.ieee_whole.proofs.whole_digits.Tie as tie
 
 returns : tie.Need-returns
 returns c = capped (c .before .args .x) (c .if1 .taken)

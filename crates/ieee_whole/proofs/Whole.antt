@@ -12,20 +12,17 @@ use lib.Ieee.{Float, nan, inf, fin, Format, binary64, prec, emax, low, up, down,
 use lib.Ieee.Fits.{down-pos, and-l, and-r, eq→eqb, round-is, round-fits}
 use lib.Ieee.Exact.{HasValue, round-exact}
 use lib.Ieee.Back.{round-whole, whole-unique}
-use Rattle.ieee.specs.Parts.{magnitude, floorDiv, ceilDiv, floorOf, ceilOf}
-use Rattle.ieee.proofs.Patterns.{yes, no}
+use Rattle.ieee.specs.Parts.{magnitude}
+use Rattle.ieee_whole.specs.Whole.{floorDiv, ceilDiv, floorOf, ceilOf}
+use Rattle.ieee.proofs.Patterns.{yes, no, fits-says}
 
--- 2 ^ 53 and 0.0 as MIR has them
+-- 2 ^ 53 as MIR has it
 abbrev pub two53 : Float
 two53 = fin false 1 (pos 53)
 
 pub two53-is : ofBits binary64 0x4340_0000_0000_0000 ≡ two53
 unfolding ofBits
 two53-is = refl
-
-pub zero-is : ofBits binary64 0 ≡ fin false 0 (pos 0)
-unfolding ofBits
-zero-is = refl
 
 -- ---- negation and rounding
 
@@ -203,18 +200,6 @@ floor-above (fin true m e) n k v h =
     nothing a d h = omega arith
 
 -- ---- from 2 ^ 53 on every value is whole
-
-pub fits-says : (s : Bool) (m : ℕ) (e : ℤ) → T (fits binary64 (fin s (suc m) e)) → (suc m < 2 ^ 53) × (down e ≤ 2 ^ 1074) × (suc m * up e < 2 ^ 1024 * down e)
-unfolding fits
-fits-says s m e t =
-    let a : Bool = eqb (suc m % 2) 1 in
-    let b : Bool = ltb (suc m) (2 ^ 53) in
-    let c : Bool = leb (down e) (2 ^ 1074) in
-    let d : Bool = ltb (suc m * up e) (2 ^ 1024 * down e) in (
-      ltb→lt (suc m) (2 ^ 53) (and-r a b (and-l (a && b) c (and-l (a && b && c) d t))),
-      leb→le (down e) (2 ^ 1074) (and-r (a && b) c (and-l (a && b && c) d t)),
-      ltb→lt (suc m * up e) (2 ^ 1024 * down e) (and-r (a && b && c) d t),
-    )
 
 pub large-is : (s : Bool) (m k : ℕ) → T (fits binary64 (fin s (suc m) (pos k))) → fin s (suc m) (pos k) ≡ round binary64 s (suc m * 2 ^ k) 1
 large-is s m k f =

@@ -9,11 +9,11 @@ use lib.Ieee.{Float, nan, inf, fin, binary64, up, down, neg, fits}
 use lib.Ieee.Exact.{HasValue}
 use lib.Ieee.Fits.{neg-fits}
 use lib.Ieee.Scale.{finite}
 use Rattle.ieee.specs.Floats.{_≼_}
-use Rattle.ieee.specs.Parts.{floorOf, ceilOf}
-use Rattle.ieee.proofs.Whole.{ceil-is}
-use Rattle.ieee.proofs.WholeLaws.{floorTo, floor-value, floor-fits, at-most-x, largest-whole}
-use Rattle.ieee.proofs.AtMost.{neg-at-most, neg-neg}
+use Rattle.ieee_whole.specs.Whole.{floorOf, ceilOf}
+use Rattle.ieee_whole.proofs.Whole.{ceil-is}
+use Rattle.ieee_whole.proofs.WholeLaws.{floorTo, floor-value, floor-fits, at-most-x, largest-whole}
+use Rattle.ieee_whole.proofs.AtMost.{neg-at-most, neg-neg}
 
 -- y is n or -n for a whole number n
 abbrev pub IsWhole : Float → Type 0

@@ -1,10 +1,10 @@
--- `ieee::ceil` meets its contract: it is the floor of -x, negated. Assumes nothing.
+-- `ieee_whole::ceil` meets its contract: it is the floor of -x, negated. Assumes nothing.
 use mathlib.Core.Path.{ap, _∙_}
 use lib.Ieee.{neg}
-use Rattle.ieee.proofs.Whole.{ceil-is}
+use Rattle.ieee_whole.proofs.Whole.{ceil-is}
 use borrow.Author.Needs.{needs}
-use Rattle.ieee.proofs.ceil.Statement.{statement}
-use Rattle.ieee.proofs.ceil.Tie as tie
+use Rattle.ieee_whole.proofs.ceil.Statement.{statement}
+use Rattle.ieee_whole.proofs.ceil.Tie as tie
 
 floor-requires : tie.Need-floor-requires
 floor-requires c κs = search needs

@@ -1,9 +1,9 @@
--- `ieee::whole_part` meets its contract: it is half of what `split_whole` ensures. Assumes nothing.
+-- `ieee_whole::whole_part` meets its contract: it is half of what `split_whole` ensures. Assumes nothing.
 use mathlib.Core.Path.{ap}
-use Rattle.ieee.specs.declared.Split.{Split}
+use Rattle.ieee_whole.specs.declared.Split.{Split}
 use borrow.Author.Needs.{needs}
-use Rattle.ieee.proofs.whole_part.Statement.{statement}
-use Rattle.ieee.proofs.whole_part.Tie as tie
+use Rattle.ieee_whole.proofs.whole_part.Statement.{statement}
+use Rattle.ieee_whole.proofs.whole_part.Tie as tie
 
 split-whole-requires : tie.Need-split-whole-requires
 split-whole-requires c κs = search needs

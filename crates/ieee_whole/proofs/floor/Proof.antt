@@ -1,4 +1,4 @@
--- `ieee::floor` meets its contract. Below 2 ^ 53 the magnitude is cut to a whole number n, and the float of n is compared with the magnitude. From 2 ^ 53 on every value is whole. Assumes nothing.
+-- `ieee_whole::floor` meets its contract. Below 2 ^ 53 the magnitude is cut to a whole number n, and the float of n is compared with the magnitude. From 2 ^ 53 on every value is whole. Assumes nothing.
 use borrow.Author.Needs.{needs}
 use mathlib.Core.Path.{_≡_, sym, ap, _∙_, subst}
 use mathlib.Core.Bool.{Bool, true, false}
@@ -8,11 +8,11 @@ use native.Mathlib.Omega.{arith}
 use lib.Dec.{T}
 use lib.IntN.{pos}
 use lib.Ieee.{Float, binary64, fits, lt, eq, ofInt, fin}
 use Rattle.ieee.specs.Parts.{magnitude}
-use Rattle.ieee.proofs.Patterns.{yes}
-use Rattle.ieee.proofs.Whole.{two53, two53-is, zero-is, Cut, small, can-cut, cut-is, cut-lt, in-float, exactly, not-exactly, floor-whole, floor-below, floor-above, floor-large}
-use Rattle.ieee.proofs.floor.Statement.{statement}
-use Rattle.ieee.proofs.floor.Tie as tie
+use Rattle.ieee.proofs.Patterns.{yes, zero-is}
+use Rattle.ieee_whole.proofs.Whole.{two53, two53-is, Cut, small, can-cut, cut-is, cut-lt, in-float, exactly, not-exactly, floor-whole, floor-below, floor-above, floor-large}
+use Rattle.ieee_whole.proofs.floor.Statement.{statement}
+use Rattle.ieee_whole.proofs.floor.Tie as tie
 
 abbrev x : tie.Start → Float
 x c = c .args .x

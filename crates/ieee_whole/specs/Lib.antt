@@ -1,0 +1,2 @@
+-- What the contracts of `ieee_whole` cite.
+pub mod Whole
