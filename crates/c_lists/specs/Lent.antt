@@ -1,26 +1,15 @@
 -- What the calls for C and Rust read of the lists that they are lent. Past the end of a list there is
 -- no number: it reads as a NaN. Definitions only, to be believed.
 use Prim.Native.Nat.{ℕ, _+_}
-use mathlib.Core.Bool.{Bool}
 use mathlib.Core.List.{List, [], _∷_}
-use lib.Dec.{eqb}
 use lib.ListN.{getD}
 use lib.Ieee.{Float, nan}
-use Rattle.prelude.specs.Prelude.{if_then_else_}
 use Rattle.pixel.specs.Pixels.{source, direction}
 use Rattle.pixel.specs.declared.SourcePixel.{SourcePixel}
 use Rattle.pixel.specs.declared.WorkingPixel.{WorkingPixel}
 use Rattle.homography.specs.declared.PerspectiveTransform.{PerspectiveTransform}
 use Rattle.line.specs.declared.Line2.{Line2}
 use Rattle.line.specs.Line.{line}
-use Rattle.camera.specs.declared.CameraIntrinsics.{CameraIntrinsics}
-use Rattle.camera.specs.declared.LensDistortion.{LensDistortion}
-use Rattle.camera.specs.declared.LensDistortion.the-variants.{None, BrownConrady}
-use Rattle.camera.specs.declared.CameraCalibration.{CameraCalibration}
-use Rattle.footprint.specs.declared.View.{View}
-use Rattle.footprint.specs.declared.View.the-variants.{Calibrated}
-use Rattle.footprint.specs.declared.BorderMode.{BorderMode}
-use Rattle.footprint.specs.declared.BorderMode.the-variants.{Reject, Clamp, Constant}
 
 abbrev pub floatAt : List Float → ℕ → Float
 floatAt s i = getD s i nan
@@ -53,25 +42,3 @@ mapOf s = record {
 -- the centroid, then the direction
 unfoldable pub lineOf : List Float → Line2
 lineOf s = line (source (floatAt s 0) (floatAt s 1)) (direction (floatAt s 2) (floatAt s 3))
-
-unfoldable pub sourceIntrinsics : List Float → CameraIntrinsics
-sourceIntrinsics s = record { fx = floatAt s 0; fy = floatAt s 1; cx = floatAt s 2; cy = floatAt s 3 }
-
-unfoldable pub rectifiedIntrinsics : List Float → CameraIntrinsics
-rectifiedIntrinsics s = record { fx = floatAt s 4; fy = floatAt s 5; cx = floatAt s 6; cy = floatAt s 7 }
-
--- k1, k2, p1, p2, k3 behind the intrinsics, where there is a lens
-unfoldable pub lensOf : List Float → Bool → LensDistortion
-lensOf s lens = if lens then BrownConrady (floatAt s 8) (floatAt s 9) (floatAt s 10) (floatAt s 11) (floatAt s 12) else None
-
--- source then rectified intrinsics, then the lens
-unfoldable pub cameraOf : List Float → Bool → CameraCalibration
-cameraOf s lens = record { intrinsics = sourceIntrinsics s; rectified = rectifiedIntrinsics s; distortion = lensOf s lens }
-
--- the photograph, seen through that camera
-abbrev pub viewOf : List Float → Bool → View
-viewOf s lens = Calibrated (cameraOf s lens)
-
--- 0 rejects, 1 clamps, anything else answers with the constant
-unfoldable pub borderOf : ℕ → ℕ → BorderMode
-borderOf mode constant = if eqb mode 0 then Reject else if eqb mode 1 then Clamp else Constant constant

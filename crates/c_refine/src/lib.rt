@@ -3,7 +3,7 @@ ghost use mathlib.Core.Path.{_≡_};
 ghost use Rattle.footprint.specs.declared.View.the-variants.{Plain};
 ghost use Rattle.request.specs.Requests.{photograph};
 ghost use Rattle.refine.specs.Refine.{refine};
-ghost use Rattle.c_lists.specs.Lent.{viewOf};
+ghost use Rattle.c_views.specs.Views.{viewOf};
 ghost use Rattle.c_answers.specs.Answers.{Written};
 ghost use Rattle.c_refine.specs.Calls.{lentRequest, WrittenMarked};
 use footprint::View;
@@ -107,7 +107,7 @@ pub fn refine_corners_mapped(
         (now (modules .entry)) (photograph (now (bytes .entry)) stride)) r
         (now (places .entry)) (now (places .exit)) (now (counts .entry)) (now (counts .exit)) ⌝ }
 {
-    let view = c_lists::view_of(camera, lens);
+    let view = c_views::view_of(camera, lens);
     let request = request_of(width, height, dim, sx, sy, corners, inverted, view);
     let a = refine::refine_corners_mapped(bytes, stride, modules, request);
     c_answers::put_answer(a, places, counts)
@@ -137,7 +137,7 @@ pub fn refine_corners_mapped_marking(
         (now (places .entry)) (now (places .exit)) (now (counts .entry)) (now (counts .exit))
         (now (sheet .entry)) (now (sheet .exit)) (now (copy .entry)) (now (copy .exit)) ⌝ }
 {
-    let view = c_lists::view_of(camera, lens);
+    let view = c_views::view_of(camera, lens);
     let request = request_of(width, height, dim, sx, sy, corners, inverted, view);
     let a = marking::refine_corners_mapped_marking(bytes, stride, modules, request, sheet, copy);
     c_answers::put_answer(a, places, counts)

@@ -7,7 +7,7 @@ ghost use Rattle.sampling.specs.Sampling.{sampleBilinear};
 ghost use Rattle.footprint.specs.declared.View.the-variants.{Plain};
 ghost use Rattle.camera.specs.Camera.{cameraAnswer};
 ghost use Rattle.profile.specs.Profile.{localizeEdgePoint};
-ghost use Rattle.c_lists.specs.Lent.{cameraOf, viewOf, borderOf};
+ghost use Rattle.c_views.specs.Views.{cameraOf, viewOf, borderOf};
 ghost use Rattle.c_buffers.specs.Buffers.{withPlace, withPoint};
 ghost use Rattle.c_samples.specs.Samples.{lentScene, lentRay};
 use footprint::Scene;
@@ -34,7 +34,7 @@ pub fn sample_bilinear(
     ensures { λ _. ⌜ now (value .exit) ≡ set (now (value .entry)) 0
         (sampleBilinear (now (bytes .entry)) width height stride x y (borderOf border constant) .luma) ⌝ }
 {
-    let mode = c_lists::border_of(border, constant);
+    let mode = c_views::border_of(border, constant);
     let sample = sampling::sample_bilinear(bytes, width, height, stride, x, y, mode);
     c_buffers::put(value, 0, sample.luma);
     sample.number
@@ -47,7 +47,7 @@ pub fn rectified_to_source(camera: &[f64], lens: bool, x: f64, y: f64, place: &m
     ensures { λ r. ⌜ r ≡ cameraAnswer (cameraOf (now (camera .entry)) lens) (source x y) .number ⌝ }
     ensures { λ _. ⌜ now (place .exit) ≡ withPlace (cameraAnswer (cameraOf (now (camera .entry)) lens) (source x y) .place) (now (place .entry)) ⌝ }
 {
-    let c = c_lists::camera_of(camera, lens);
+    let c = c_views::camera_of(camera, lens);
     let placed = c.rectified_to_source(SourcePixel(x, y));
     c_buffers::put_place(place, placed.place);
     placed.number
@@ -119,7 +119,7 @@ pub fn localize_edge_point_mapped(
         (lentScene width height (viewOf (now (camera .entry)) lens))
         (lentRay «coarse_x» «coarse_y» «normal_x» «normal_y» step inverted «inward_differs») .point) (now (point .entry)) ⌝ }
 {
-    let view = c_lists::view_of(camera, lens);
+    let view = c_views::view_of(camera, lens);
     let scene = Scene {
         width,
         height,

@@ -2,7 +2,7 @@
 ghost use Rattle.footprint.specs.declared.View.the-variants.{Plain};
 ghost use Rattle.request.specs.Requests.{photograph};
 ghost use Rattle.refine.specs.Refine.{refine};
-ghost use Rattle.c_lists.specs.Lent.{viewOf};
+ghost use Rattle.c_views.specs.Views.{viewOf};
 ghost use Rattle.c_answers.specs.Answers.{Written};
 ghost use Rattle.c_refine.specs.Calls.{lentRequest, WrittenMarked};
 

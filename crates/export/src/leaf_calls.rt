@@ -10,7 +10,8 @@ ghost use Rattle.camera.specs.Camera.{cameraAnswer};
 ghost use Rattle.homography.specs.Homography.{squareToQuad, quadToQuad, mapAnswer, mapPoint, scaled, inverse, composed};
 ghost use Rattle.line.specs.Line.{fitLine, lineAnswer, crossing, crossAnswer};
 ghost use Rattle.profile.specs.Profile.{localizeEdgePoint};
-ghost use Rattle.c_lists.specs.Lent.{quadOf, mapOf, lineOf, cameraOf, viewOf, borderOf};
+ghost use Rattle.c_lists.specs.Lent.{quadOf, mapOf, lineOf};
+ghost use Rattle.c_views.specs.Views.{cameraOf, viewOf, borderOf};
 ghost use Rattle.c_buffers.specs.Buffers.{withPlace, withPoint, withLine, withMap};
 ghost use Rattle.c_samples.specs.Samples.{lentScene, lentRay};
 

@@ -1,8 +1,8 @@
 -- `camera_of` meets its contract: its three parts are what its callees read. Assumes nothing.
-use Rattle.c_lists.specs.Lent.{cameraOf}
+use Rattle.c_views.specs.Views.{cameraOf}
 use borrow.Author.Needs.{needs}
-use Rattle.c_lists.proofs.camera_of.Statement.{statement}
-use Rattle.c_lists.proofs.camera_of.Tie as tie
+use Rattle.c_views.proofs.camera_of.Statement.{statement}
+use Rattle.c_views.proofs.camera_of.Tie as tie
 
 source-intrinsics-requires : tie.Need-source-intrinsics-requires
 source-intrinsics-requires c κs = search needs

@@ -1,8 +1,8 @@
 -- `lens_of` meets its contract: each coefficient is what `float_at` reads. Assumes nothing.
-use Rattle.c_lists.specs.Lent.{lensOf}
+use Rattle.c_views.specs.Views.{lensOf}
 use borrow.Author.Needs.{needs}
-use Rattle.c_lists.proofs.lens_of.Statement.{statement}
-use Rattle.c_lists.proofs.lens_of.Tie as tie
+use Rattle.c_views.proofs.lens_of.Statement.{statement}
+use Rattle.c_views.proofs.lens_of.Tie as tie
 
 float-at-requires : tie.Need-float-at-requires
 float-at-requires c κs = search needs

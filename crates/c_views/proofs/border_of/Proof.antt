@@ -1,8 +1,8 @@
 -- `border_of` meets its contract: one test for each listed mode. Assumes nothing.
-use Rattle.c_lists.specs.Lent.{borderOf}
+use Rattle.c_views.specs.Views.{borderOf}
 use borrow.Author.Tests.{eq-eqb, ne-eqb}
-use Rattle.c_lists.proofs.border_of.Statement.{statement}
-use Rattle.c_lists.proofs.border_of.Tie as tie
+use Rattle.c_views.proofs.border_of.Statement.{statement}
+use Rattle.c_views.proofs.border_of.Tie as tie
 
 returns : tie.Need-returns
 unfolding borderOf

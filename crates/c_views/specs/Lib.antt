@@ -1,0 +1,2 @@
+-- What the contracts of `c_views` cite.
+pub mod Views
