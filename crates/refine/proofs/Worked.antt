@@ -23,6 +23,7 @@ use Rattle.peak.proofs.Opened as Peak
 use Rattle.profile.proofs.Opened as Profile
 use Rattle.grid.proofs.Opened as Grids
 use Rattle.edge.proofs.Opened as Edge
+use Rattle.edges.proofs.Opened as Edges
 use Rattle.corners.proofs.Opened as Corners
 use Rattle.rounds.proofs.Opened as Rounds
 use Rattle.refine.proofs.Opened as Refine
@@ -183,5 +184,5 @@ grey-photograph = record { bytes = replicate 16 128; stride = 4 }
 pub grey-is-thin : T (eqb (refine grey (1 ∷ 1 ∷ 1 ∷ 1 ∷ []) grey-photograph .number) 9)
 unfolding grey grey-photograph at
     Ieee.opened Root.opened Pixel.opened Photograph.opened Footprint.opened Sampling.opened SampleTree.opened Homography.opened Line.opened Fit.opened
-    Peak.opened Profile.opened Grids.opened Edge.opened Corners.opened Rounds.opened Refine.opened
+    Peak.opened Profile.opened Grids.opened Edge.opened Edges.opened Corners.opened Rounds.opened Refine.opened
 grey-is-thin = tt

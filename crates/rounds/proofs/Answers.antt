@@ -27,9 +27,10 @@ use Rattle.sample_tree.proofs.Always.{Always, ends, always-bind}
 use Rattle.grid.proofs.Counts.{probeLimit}
 use Rattle.edge.specs.declared.Plan.{Plan}
 use Rattle.edge.proofs.Counts.{edge-counted}
+use Rattle.edges.specs.declared.Edges.{Edges}
+use Rattle.edges.specs.Edges.{noStat, noEdges, withEdge}
 use Rattle.corners.specs.declared.Answer.{Answer}
-use Rattle.corners.specs.declared.Edges.{Edges}
-use Rattle.corners.specs.Corners.{noStat, refused, answered, noEdges, withEdge, lineIn, statIn, validCount, crossedAt, orElse, refinedCorners, roundEnd}
+use Rattle.corners.specs.Corners.{refused, answered, lineIn, statIn, validCount, crossedAt, orElse, refinedCorners, roundEnd}
 use Rattle.rounds.specs.Rounds.{unlessRefused, sideOf, edgesFrom, mappedRound, round, isWeak, remainingRounds, rounds}
 
 pub record Sound (n : ℕ) (a : Answer) : Type 0 where

@@ -18,9 +18,10 @@ use Rattle.sample_tree.specs.SampleTree.{SampleTree, done}
 use Rattle.sample_tree.specs.Run.{Sampler, Runs}
 use Rattle.sample_tree.proofs.Steps.{Leads, start, then as and-then, called, end, ended}
 use Rattle.edge.specs.declared.Plan.{Plan}
+use Rattle.edges.specs.declared.Edges.{Edges}
+use Rattle.edges.specs.Edges.{noEdges}
 use Rattle.corners.specs.declared.Answer.{Answer}
-use Rattle.corners.specs.declared.Edges.{Edges}
-use Rattle.corners.specs.Corners.{refused, noEdges, roundEnd}
+use Rattle.corners.specs.Corners.{refused, roundEnd}
 use Rattle.rounds.specs.Rounds.{edgesFrom, mappedRound, round, isWeak, remainingRounds, rounds}
 
 module _ {S : Type 0} (ask : Sampler S) (plan : Plan) (ms : List ℕ) where

@@ -16,9 +16,10 @@ use Rattle.sample_tree.specs.SampleTree.{SampleTree, done, _>>=_}
 use Rattle.edge.specs.declared.Plan.{Plan}
 use Rattle.edge.specs.declared.Side.{Side}
 use Rattle.edge.specs.Edge.{edge}
+use Rattle.edges.specs.declared.Edges.{Edges}
+use Rattle.edges.specs.Edges.{noEdges, withEdge}
 use Rattle.corners.specs.declared.Answer.{Answer}
-use Rattle.corners.specs.declared.Edges.{Edges}
-use Rattle.corners.specs.Corners.{refused, noEdges, withEdge, roundEnd}
+use Rattle.corners.specs.Corners.{refused, roundEnd}
 
 -- ---- the four edges, in turn; the number of one ends them
 

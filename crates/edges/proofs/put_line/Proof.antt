@@ -3,8 +3,8 @@ use mathlib.Core.Path.{sym}
 use native.Mathlib.Omega.{arith}
 use lib.Seq.{set-out}
 use borrow.Author.Needs.{needs}
-use Rattle.corners.proofs.put_line.Statement.{statement}
-use Rattle.corners.proofs.put_line.Tie as tie
+use Rattle.edges.proofs.put_line.Statement.{statement}
+use Rattle.edges.proofs.put_line.Tie as tie
 
 returns : tie.Need-returns
 returns c = sym (set-out _ _ _ (omega arith))

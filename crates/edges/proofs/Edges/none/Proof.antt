@@ -1,8 +1,8 @@
 -- `Edges::none` meets its contract: the definition's fields, each made by a call. Assumes nothing.
 use borrow.Author.Needs.{needs}
-use Rattle.corners.specs.Corners.{noEdges}
-use Rattle.corners.proofs.Edges.none.Statement.{statement}
-use Rattle.corners.proofs.Edges.none.Tie as tie
+use Rattle.edges.specs.Edges.{noEdges}
+use Rattle.edges.proofs.Edges.none.Statement.{statement}
+use Rattle.edges.proofs.Edges.none.Tie as tie
 
 zero-line-requires : tie.Need-zero-line-requires
 zero-line-requires c κs = search needs

@@ -1,8 +1,8 @@
 -- `Edges::with` meets its contract: each case of an edge's end is the definition's. Assumes nothing.
 use borrow.Author.Needs.{needs}
-use Rattle.corners.specs.Corners.{withEdge}
-use Rattle.corners.proofs.Edges.with.Statement.{statement}
-use Rattle.corners.proofs.Edges.with.Tie as tie
+use Rattle.edges.specs.Edges.{withEdge}
+use Rattle.edges.proofs.Edges.with.Statement.{statement}
+use Rattle.edges.proofs.Edges.with.Tie as tie
 
 enum-known-fit : tie.Need-enum-known-fit
 enum-known-fit c = search needs
