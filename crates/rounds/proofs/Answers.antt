@@ -16,9 +16,9 @@ use Rattle.pixel.specs.Pixels.{source, corner}
 use Rattle.pixel.specs.declared.SourcePixel.{SourcePixel}
 use Rattle.pixel.proofs.Values.{Fits, origin-fits}
 use Rattle.homography.specs.declared.PerspectiveTransform.{PerspectiveTransform}
-use Rattle.homography.specs.declared.Mapped.{Mapped}
-use Rattle.homography.specs.declared.Mapped.the-variants.{By, NoMap}
-use Rattle.homography.specs.Homography.{squareToQuad}
+use Rattle.quad.specs.declared.Mapped.{Mapped}
+use Rattle.quad.specs.declared.Mapped.the-variants.{By, NoMap}
+use Rattle.quad.specs.Quad.{squareToQuad}
 use Rattle.line.specs.declared.Crossing.{Crossing}
 use Rattle.line.proofs.Crossings.{CrossingFits, crossed, parallel, crossing-fits}
 use Rattle.fit.specs.declared.EdgeFit.{EdgeFit}

@@ -11,9 +11,9 @@ use Rattle.prelude.specs.Prelude.{if_then_else_}
 use Rattle.number.specs.Numbers as number
 use Rattle.pixel.specs.declared.SourcePixel.{SourcePixel}
 use Rattle.homography.specs.declared.PerspectiveTransform.{PerspectiveTransform}
-use Rattle.homography.specs.declared.Mapped.{Mapped}
-use Rattle.homography.specs.declared.Mapped.the-variants.{By, NoMap}
-use Rattle.homography.specs.Homography.{squareToQuad}
+use Rattle.quad.specs.declared.Mapped.{Mapped}
+use Rattle.quad.specs.declared.Mapped.the-variants.{By, NoMap}
+use Rattle.quad.specs.Quad.{squareToQuad}
 use Rattle.sample_tree.specs.SampleTree.{SampleTree, done}
 use Rattle.sample_tree.specs.Run.{Sampler, Runs}
 use Rattle.sample_tree.proofs.Steps.{Leads, start, then as and-then, called, end, ended}

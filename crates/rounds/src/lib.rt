@@ -9,9 +9,9 @@ use corners::Answer;
 use edge::Side;
 use edge::Task;
 use edges::Edges;
-use homography::Mapped;
 use homography::PerspectiveTransform;
 use pixel::SourcePixel;
+use quad::Mapped;
 use sample_tree::Meter;
 
 // The edges of a round, and what sampling carries along.
@@ -90,7 +90,7 @@ fn refine_round(
         (state (now (sheet .entry)) (now (copy .entry)) meter)
         (state (now (sheet .exit)) (now (copy .exit)) (r .meter)) ⌝ }
 {
-    match homography::quad_map(q) {
+    match quad::quad_map(q) {
         Mapped::NoMap => RoundResult {
             answer: corners::refused(number::QUAD),
             meter,

@@ -1,7 +1,7 @@
--- `homography::projective_map` meets its contract: the same operations, and no map where the denominator is 0. Assumes nothing.
-use Rattle.homography.specs.Homography.{projective}
-use Rattle.homography.proofs.projective_map.Statement.{statement}
-use Rattle.homography.proofs.projective_map.Tie as tie
+-- `quad::projective_map` meets its contract: the same operations, and no map where the denominator is 0. Assumes nothing.
+use Rattle.quad.specs.Quad.{projective}
+use Rattle.quad.proofs.projective_map.Statement.{statement}
+use Rattle.quad.proofs.projective_map.Tie as tie
 
 returns : tie.Need-returns
 unfolding projective

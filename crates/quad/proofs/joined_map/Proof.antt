@@ -1,8 +1,8 @@
--- `homography::joined_map` meets its contract: no map where one of the two has none, and else the inverse of one, then the other. Assumes nothing.
-use Rattle.homography.specs.Homography.{joined}
+-- `quad::joined_map` meets its contract: no map where one of the two has none, and else the inverse of one, then the other. Assumes nothing.
+use Rattle.quad.specs.Quad.{joined}
 use borrow.Author.Needs.{needs}
-use Rattle.homography.proofs.joined_map.Statement.{statement}
-use Rattle.homography.proofs.joined_map.Tie as tie
+use Rattle.quad.proofs.joined_map.Statement.{statement}
+use Rattle.quad.proofs.joined_map.Tie as tie
 
 enum-known-from : tie.Need-enum-known-from
 enum-known-from c = search needs

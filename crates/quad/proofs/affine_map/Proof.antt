@@ -1,7 +1,7 @@
--- `homography::affine_map` meets its contract: the same operations, and no map where the area is 0. Assumes nothing.
-use Rattle.homography.specs.Homography.{affine}
-use Rattle.homography.proofs.affine_map.Statement.{statement}
-use Rattle.homography.proofs.affine_map.Tie as tie
+-- `quad::affine_map` meets its contract: the same operations, and no map where the area is 0. Assumes nothing.
+use Rattle.quad.specs.Quad.{affine}
+use Rattle.quad.proofs.affine_map.Statement.{statement}
+use Rattle.quad.proofs.affine_map.Tie as tie
 
 returns : tie.Need-returns
 unfolding affine

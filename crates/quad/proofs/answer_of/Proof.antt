@@ -1,8 +1,8 @@
--- `homography::answer_of` meets its contract: the number and the map of each case. Assumes nothing.
-use Rattle.homography.specs.Homography.{mapAnswer}
+-- `quad::answer_of` meets its contract: the number and the map of each case. Assumes nothing.
+use Rattle.quad.specs.Quad.{mapAnswer}
 use borrow.Author.Needs.{needs}
-use Rattle.homography.proofs.answer_of.Statement.{statement}
-use Rattle.homography.proofs.answer_of.Tie as tie
+use Rattle.quad.proofs.answer_of.Statement.{statement}
+use Rattle.quad.proofs.answer_of.Tie as tie
 
 enum-known-m : tie.Need-enum-known-m
 enum-known-m c = search needs

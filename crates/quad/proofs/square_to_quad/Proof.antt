@@ -1,7 +1,7 @@
--- `PerspectiveTransform::square_to_quad` meets its contract: it says in numbers what `quad_map` answers. Assumes nothing.
+-- `quad::square_to_quad` meets its contract: it says in numbers what `quad_map` answers. Assumes nothing.
 use borrow.Author.Needs.{needs}
-use Rattle.homography.proofs.PerspectiveTransform.square_to_quad.Statement.{statement}
-use Rattle.homography.proofs.PerspectiveTransform.square_to_quad.Tie as tie
+use Rattle.quad.proofs.square_to_quad.Statement.{statement}
+use Rattle.quad.proofs.square_to_quad.Tie as tie
 
 quad-map-requires : tie.Need-quad-map-requires
 quad-map-requires c κs = search needs

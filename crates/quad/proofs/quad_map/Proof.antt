@@ -1,9 +1,9 @@
--- `homography::quad_map` meets its contract: affine where both differences are 0, and projective otherwise. Assumes nothing.
-use Rattle.homography.specs.Homography.{quadMap, squareToQuad}
-use Rattle.homography.proofs.Laws.{differs, agrees}
+-- `quad::quad_map` meets its contract: affine where both differences are 0, and projective otherwise. Assumes nothing.
+use Rattle.quad.specs.Quad.{quadMap, squareToQuad}
+use Rattle.quad.proofs.Laws.{differs, agrees}
 use borrow.Author.Needs.{needs}
-use Rattle.homography.proofs.quad_map.Statement.{statement}
-use Rattle.homography.proofs.quad_map.Tie as tie
+use Rattle.quad.proofs.quad_map.Statement.{statement}
+use Rattle.quad.proofs.quad_map.Tie as tie
 
 array-copy-out-p0 : tie.Need-array-copy-out-p0
 array-copy-out-p0 c = search needs

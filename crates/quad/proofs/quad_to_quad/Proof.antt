@@ -1,8 +1,8 @@
--- `PerspectiveTransform::quad_to_quad` meets its contract: it says in numbers what its callees answer. Assumes nothing.
-use Rattle.homography.specs.Homography.{quadToQuad}
+-- `quad::quad_to_quad` meets its contract: it says in numbers what its callees answer. Assumes nothing.
+use Rattle.quad.specs.Quad.{quadToQuad}
 use borrow.Author.Needs.{needs}
-use Rattle.homography.proofs.PerspectiveTransform.quad_to_quad.Statement.{statement}
-use Rattle.homography.proofs.PerspectiveTransform.quad_to_quad.Tie as tie
+use Rattle.quad.proofs.quad_to_quad.Statement.{statement}
+use Rattle.quad.proofs.quad_to_quad.Tie as tie
 
 quad-map-requires : tie.Need-quad-map-requires
 quad-map-requires c κs = search needs
