@@ -1,6 +1,6 @@
 // homography.rs: a map of the label, where it sends a point, and the maps that are made of maps.
 ghost use mathlib.Core.Path.{_≡_};
-ghost use Rattle.homography.specs.Homography.{composed, inverse, mapPoint, scaled};
+ghost use Rattle.homography.specs.Homography.{composed, dot, inverse, mapPoint, scaled};
 use pixel::SourcePixel;
 
 // (u, v) goes to ((a11 u + a21 v + a31) / w, (a12 u + a22 v + a32) / w), w = a13 u + a23 v + a33.
@@ -15,6 +15,9 @@ pub struct PerspectiveTransform {
     pub a23: f64,
     pub a33: f64,
 }
+
+// A column of a map's matrix.
+struct Column(f64, f64, f64);
 
 impl PerspectiveTransform {
     // Where (u, v) goes. On the map's horizon w is 0 and the place infinite or a NaN: the callers test what they use.
@@ -62,20 +65,36 @@ impl PerspectiveTransform {
         }
     }
 
+    // The map's matrix times a column.
+    fn times(self, x: f64, y: f64, z: f64) -> Column
+        ensures { λ r. ⌜ r .0 ≡ dot (self .a11) (self .a21) (self .a31) x y z ⌝ }
+        ensures { λ r. ⌜ r .1 ≡ dot (self .a12) (self .a22) (self .a32) x y z ⌝ }
+        ensures { λ r. ⌜ r .2 ≡ dot (self .a13) (self .a23) (self .a33) x y z ⌝ }
+    {
+        Column(
+            self.a11 * x + self.a21 * y + self.a31 * z,
+            self.a12 * x + self.a22 * y + self.a32 * z,
+            self.a13 * x + self.a23 * y + self.a33 * z,
+        )
+    }
+
     // This map first and `outer` after it: the matrix product of outer and this.
     pub fn then(self, outer: PerspectiveTransform) -> PerspectiveTransform
         ensures { λ r. ⌜ r ≡ composed self outer ⌝ }
     {
+        let first = outer.times(self.a11, self.a12, self.a13);
+        let second = outer.times(self.a21, self.a22, self.a23);
+        let third = outer.times(self.a31, self.a32, self.a33);
         PerspectiveTransform {
-            a11: outer.a11 * self.a11 + outer.a21 * self.a12 + outer.a31 * self.a13,
-            a21: outer.a11 * self.a21 + outer.a21 * self.a22 + outer.a31 * self.a23,
-            a31: outer.a11 * self.a31 + outer.a21 * self.a32 + outer.a31 * self.a33,
-            a12: outer.a12 * self.a11 + outer.a22 * self.a12 + outer.a32 * self.a13,
-            a22: outer.a12 * self.a21 + outer.a22 * self.a22 + outer.a32 * self.a23,
-            a32: outer.a12 * self.a31 + outer.a22 * self.a32 + outer.a32 * self.a33,
-            a13: outer.a13 * self.a11 + outer.a23 * self.a12 + outer.a33 * self.a13,
-            a23: outer.a13 * self.a21 + outer.a23 * self.a22 + outer.a33 * self.a23,
-            a33: outer.a13 * self.a31 + outer.a23 * self.a32 + outer.a33 * self.a33,
+            a11: first.0,
+            a21: second.0,
+            a31: third.0,
+            a12: first.1,
+            a22: second.1,
+            a32: third.1,
+            a13: first.2,
+            a23: second.2,
+            a33: third.2,
         }
     }
 }
