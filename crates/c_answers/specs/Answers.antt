@@ -10,9 +10,9 @@ use Rattle.prelude.specs.Prelude.{bit}
 use Rattle.pixel.specs.Pixels.{corner}
 use Rattle.pixel.specs.declared.SourcePixel.{SourcePixel}
 use Rattle.fit.specs.declared.EdgeStat.{EdgeStat}
+use Rattle.edges.specs.Edges.{noStat}
 use Rattle.corners.specs.declared.RefinedCorners.{RefinedCorners}
 use Rattle.corners.specs.declared.Answer.{Answer}
-use Rattle.corners.specs.Corners.{noStat}
 use Rattle.c_buffers.specs.Buffers.{withPlaceAt}
 
 -- the corners x0, y0 to x3, y3

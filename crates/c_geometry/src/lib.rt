@@ -1,6 +1,7 @@
 // The calls for C and Rust about maps and lines, each over the lists and buffers that it is lent: `export` hands every one on as it is.
 ghost use mathlib.Core.Path.{_≡_};
-ghost use Rattle.homography.specs.Homography.{squareToQuad, quadToQuad, mapAnswer, mapPoint, scaled as scaledBy, inverse as inverseOf, composed};
+ghost use Rattle.homography.specs.Homography.{mapPoint, scaled as scaledBy, inverse as inverseOf, composed};
+ghost use Rattle.quad.specs.Quad.{squareToQuad, quadToQuad, mapAnswer};
 ghost use Rattle.line.specs.Line.{fitLine, lineAnswer, crossing, crossAnswer};
 ghost use Rattle.c_lists.specs.Lent.{quadOf, mapOf, lineOf};
 ghost use Rattle.c_buffers.specs.Buffers.{withPlace, withLine, withMap};
@@ -14,7 +15,7 @@ pub fn square_to_quad(corners: &[f64], map: &mut [f64]) -> u32
     ensures { λ _. ⌜ now (map .exit) ≡ withMap (mapAnswer (squareToQuad (quadOf (now (corners .entry)))) .map) (now (map .entry)) ⌝ }
 {
     let q = c_lists::quad_of(corners);
-    let square = PerspectiveTransform::square_to_quad(q);
+    let square = quad::square_to_quad(q);
     c_buffers::put_map(map, square.map);
     square.number
 }
@@ -27,7 +28,7 @@ pub fn quad_to_quad(from: &[f64], to: &[f64], map: &mut [f64]) -> u32
 {
     let f = c_lists::quad_of(from);
     let t = c_lists::quad_of(to);
-    let quads = PerspectiveTransform::quad_to_quad(f, t);
+    let quads = quad::quad_to_quad(f, t);
     c_buffers::put_map(map, quads.map);
     quads.number
 }

@@ -6,7 +6,7 @@ use borrow.Author.Tests.{not-true, not-false}
 use Rattle.line.specs.declared.Crossing.{Crossing}
 use Rattle.line.specs.declared.Crossing.the-variants.{Parallel}
 use Rattle.line.specs.Line.{crossing}
-use Rattle.corners.specs.declared.Edges.{Edges}
+use Rattle.edges.specs.declared.Edges.{Edges}
 use Rattle.corners.specs.Corners.{statIn, lineIn, crossedAt}
 
 module _ (es : Edges) (i : ℕ) where

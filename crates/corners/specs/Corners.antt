@@ -1,11 +1,10 @@
--- refine.rs, what a round's edges come to: where an edge's line and counts are put (602 and 603), the
--- refusal under two valid edges, the corners where the edges cross, and the answer (606 to 627).
--- Definitions only, to be believed.
+-- refine.rs, what a round's edges come to: the refusal under two valid edges, the corners where the edges
+-- cross, and the answer (606 to 627). Definitions only, to be believed.
 use Prim.Native.Nat.{ℕ, _+_, _%_}
 use mathlib.Core.Bool.{Bool, true, false, not, _&&_}
 use mathlib.Core.List.{List, [], _∷_}
 use lib.Dec.{ltb, eqb}
-use lib.ListN.{getD, set, replicate}
+use lib.ListN.{getD, replicate}
 use lib.Ieee.{nan}
 use Rattle.prelude.specs.Prelude.{if_then_else_, bit}
 use Rattle.number.specs.Numbers as number
@@ -15,19 +14,14 @@ use Rattle.pixel.specs.declared.SourcePixel.{SourcePixel}
 use Rattle.line.specs.declared.Line2.{Line2}
 use Rattle.line.specs.declared.Crossing.{Crossing}
 use Rattle.line.specs.declared.Crossing.the-variants.{At, Parallel}
-use Rattle.line.specs.Line.{line, zeroLine, crossing}
+use Rattle.line.specs.Line.{line, crossing}
 use Rattle.fit.specs.declared.EdgeStat.{EdgeStat}
-use Rattle.fit.specs.declared.EdgeFit.{EdgeFit}
-use Rattle.fit.specs.declared.EdgeFit.the-variants.{Refusal, TooFewPoints, LineFit}
-use Rattle.fit.specs.Fit.{stat}
+use Rattle.edges.specs.declared.Edges.{Edges}
+use Rattle.edges.specs.Edges.{noStat}
 use Rattle.corners.specs.declared.RefinedCorners.{RefinedCorners}
 use Rattle.corners.specs.declared.Answer.{Answer}
-use Rattle.corners.specs.declared.Edges.{Edges}
 
 -- ---- answers
-
-abbrev pub noStat : EdgeStat
-noStat = stat 0 0 0 false
 
 unfoldable pub refused : ℕ → Answer
 refused n = record {
@@ -37,17 +31,6 @@ refused n = record {
 
 unfoldable pub answered : RefinedCorners → Answer
 answered r = record { number = number.answer; refined = r }
-
--- ---- the edges
-
-unfoldable pub noEdges : Edges
-noEdges = record { number = number.answer; lines = replicate 4 zeroLine; «edge_stats» = replicate 4 noStat }
-
--- edge e put in its place
-unfoldable pub withEdge : ℕ → Edges → EdgeFit → Edges
-withEdge e got (Refusal n) = record { number = n; lines = got .lines; «edge_stats» = got .«edge_stats» }
-withEdge e got (TooFewPoints c) = record { number = got .number; lines = got .lines; «edge_stats» = set (got .«edge_stats») e c }
-withEdge e got (LineFit l c) = record { number = got .number; lines = set (got .lines) e l; «edge_stats» = set (got .«edge_stats») e c }
 
 -- ---- the corners
 

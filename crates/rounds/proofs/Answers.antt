@@ -16,9 +16,9 @@ use Rattle.pixel.specs.Pixels.{source, corner}
 use Rattle.pixel.specs.declared.SourcePixel.{SourcePixel}
 use Rattle.pixel.proofs.Values.{Fits, origin-fits}
 use Rattle.homography.specs.declared.PerspectiveTransform.{PerspectiveTransform}
-use Rattle.homography.specs.declared.Mapped.{Mapped}
-use Rattle.homography.specs.declared.Mapped.the-variants.{By, NoMap}
-use Rattle.homography.specs.Homography.{squareToQuad}
+use Rattle.quad.specs.declared.Mapped.{Mapped}
+use Rattle.quad.specs.declared.Mapped.the-variants.{By, NoMap}
+use Rattle.quad.specs.Quad.{squareToQuad}
 use Rattle.line.specs.declared.Crossing.{Crossing}
 use Rattle.line.proofs.Crossings.{CrossingFits, crossed, parallel, crossing-fits}
 use Rattle.fit.specs.declared.EdgeFit.{EdgeFit}
@@ -27,9 +27,10 @@ use Rattle.sample_tree.proofs.Always.{Always, ends, always-bind}
 use Rattle.grid.proofs.Counts.{probeLimit}
 use Rattle.probe.specs.declared.Plan.{Plan}
 use Rattle.edge.proofs.Counts.{edge-counted}
+use Rattle.edges.specs.declared.Edges.{Edges}
+use Rattle.edges.specs.Edges.{noStat, noEdges, withEdge}
 use Rattle.corners.specs.declared.Answer.{Answer}
-use Rattle.corners.specs.declared.Edges.{Edges}
-use Rattle.corners.specs.Corners.{noStat, refused, answered, noEdges, withEdge, lineIn, statIn, validCount, crossedAt, orElse, refinedCorners, roundEnd}
+use Rattle.corners.specs.Corners.{refused, answered, lineIn, statIn, validCount, crossedAt, orElse, refinedCorners, roundEnd}
 use Rattle.rounds.specs.Rounds.{unlessRefused, sideOf, edgesFrom, mappedRound, round, isWeak, remainingRounds, rounds}
 
 pub record Sound (n : ℕ) (a : Answer) : Type 0 where

@@ -18,8 +18,8 @@ use Rattle.fit.specs.declared.EdgeFit.{EdgeFit}
 use Rattle.probe.specs.declared.Plan.{Plan}
 use Rattle.probe.specs.declared.Side.{Side}
 use Rattle.edge.specs.Edge.{edge}
-use Rattle.corners.specs.declared.Edges.{Edges}
-use Rattle.corners.specs.Corners.{noEdges, withEdge}
+use Rattle.edges.specs.declared.Edges.{Edges}
+use Rattle.edges.specs.Edges.{noEdges, withEdge}
 use Rattle.rounds.specs.Rounds.{unlessRefused, edgesFrom, sideOf}
 
 module _ {S : Type 0} (ask : Sampler S) (plan : Plan) (ms : List ℕ) (m : PerspectiveTransform) (q : List SourcePixel) where

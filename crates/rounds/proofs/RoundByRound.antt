@@ -11,16 +11,17 @@ use Rattle.prelude.specs.Prelude.{if_then_else_}
 use Rattle.number.specs.Numbers as number
 use Rattle.pixel.specs.declared.SourcePixel.{SourcePixel}
 use Rattle.homography.specs.declared.PerspectiveTransform.{PerspectiveTransform}
-use Rattle.homography.specs.declared.Mapped.{Mapped}
-use Rattle.homography.specs.declared.Mapped.the-variants.{By, NoMap}
-use Rattle.homography.specs.Homography.{squareToQuad}
+use Rattle.quad.specs.declared.Mapped.{Mapped}
+use Rattle.quad.specs.declared.Mapped.the-variants.{By, NoMap}
+use Rattle.quad.specs.Quad.{squareToQuad}
 use Rattle.sample_tree.specs.SampleTree.{SampleTree, done}
 use Rattle.sample_tree.specs.Run.{Sampler, Runs}
 use Rattle.sample_tree.proofs.Steps.{Leads, start, then as and-then, called, end, ended}
 use Rattle.probe.specs.declared.Plan.{Plan}
+use Rattle.edges.specs.declared.Edges.{Edges}
+use Rattle.edges.specs.Edges.{noEdges}
 use Rattle.corners.specs.declared.Answer.{Answer}
-use Rattle.corners.specs.declared.Edges.{Edges}
-use Rattle.corners.specs.Corners.{refused, noEdges, roundEnd}
+use Rattle.corners.specs.Corners.{refused, roundEnd}
 use Rattle.rounds.specs.Rounds.{edgesFrom, mappedRound, round, isWeak, remainingRounds, rounds}
 
 module _ {S : Type 0} (ask : Sampler S) (plan : Plan) (ms : List ℕ) where

@@ -9,16 +9,17 @@ use Rattle.number.specs.Numbers as number
 use Rattle.pixel.specs.Pixels.{corner}
 use Rattle.pixel.specs.declared.SourcePixel.{SourcePixel}
 use Rattle.homography.specs.declared.PerspectiveTransform.{PerspectiveTransform}
-use Rattle.homography.specs.declared.Mapped.{Mapped}
-use Rattle.homography.specs.declared.Mapped.the-variants.{By, NoMap}
-use Rattle.homography.specs.Homography.{squareToQuad}
+use Rattle.quad.specs.declared.Mapped.{Mapped}
+use Rattle.quad.specs.declared.Mapped.the-variants.{By, NoMap}
+use Rattle.quad.specs.Quad.{squareToQuad}
 use Rattle.sample_tree.specs.SampleTree.{SampleTree, done, _>>=_}
 use Rattle.probe.specs.declared.Plan.{Plan}
 use Rattle.probe.specs.declared.Side.{Side}
 use Rattle.edge.specs.Edge.{edge}
+use Rattle.edges.specs.declared.Edges.{Edges}
+use Rattle.edges.specs.Edges.{noEdges, withEdge}
 use Rattle.corners.specs.declared.Answer.{Answer}
-use Rattle.corners.specs.declared.Edges.{Edges}
-use Rattle.corners.specs.Corners.{refused, noEdges, withEdge, roundEnd}
+use Rattle.corners.specs.Corners.{refused, roundEnd}
 
 -- ---- the four edges, in turn; the number of one ends them
 

@@ -3,15 +3,15 @@ ghost use mathlib.Core.Path.{_≡_};
 ghost use Prim.Native.Nat.{_-_, _<_};
 ghost use Rattle.photograph.specs.Photographs.{photo};
 ghost use Rattle.sample_tree.specs.Run.{state, sampler, Runs};
-ghost use Rattle.corners.specs.Corners.{noEdges};
+ghost use Rattle.edges.specs.Edges.{noEdges};
 ghost use Rattle.rounds.specs.Rounds.{edgesFrom, remainingRounds, isWeak, round, rounds, sideOf};
 use corners::Answer;
-use corners::Edges;
 use edge::Task;
-use homography::Mapped;
+use edges::Edges;
 use homography::PerspectiveTransform;
 use pixel::SourcePixel;
 use probe::Side;
+use quad::Mapped;
 use sample_tree::Meter;
 
 // The edges of a round, and what sampling carries along.
@@ -90,7 +90,7 @@ fn refine_round(
         (state (now (sheet .entry)) (now (copy .entry)) meter)
         (state (now (sheet .exit)) (now (copy .exit)) (r .meter)) ⌝ }
 {
-    match homography::quad_map(q) {
+    match quad::quad_map(q) {
         Mapped::NoMap => RoundResult {
             answer: corners::refused(number::QUAD),
             meter,

@@ -17,6 +17,7 @@ use Rattle.footprint.proofs.Opened as Footprint
 use Rattle.sampling.proofs.Opened as Sampling
 use Rattle.sample_tree.proofs.Opened as SampleTree
 use Rattle.homography.proofs.Opened as Homography
+use Rattle.quad.proofs.Opened as Quad
 use Rattle.line.proofs.Opened as Line
 use Rattle.fit.proofs.Opened as Fit
 use Rattle.peak.proofs.Opened as Peak
@@ -24,6 +25,7 @@ use Rattle.profile.proofs.Opened as Profile
 use Rattle.grid.proofs.Opened as Grids
 use Rattle.probe.proofs.Opened as Probe
 use Rattle.edge.proofs.Opened as Edge
+use Rattle.edges.proofs.Opened as Edges
 use Rattle.corners.proofs.Opened as Corners
 use Rattle.rounds.proofs.Opened as Rounds
 use Rattle.request.proofs.Opened as Requests
@@ -33,8 +35,9 @@ use Rattle.consts.specs.Consts.{defaults}
 use Rattle.pixel.specs.Pixels.{source, direction, edgePoint}
 use Rattle.pixel.specs.declared.SourcePixel.{SourcePixel}
 use Rattle.pixel.specs.declared.WorkingPixel.{WorkingPixel}
-use Rattle.homography.specs.declared.MapAnswer.{MapAnswer}
-use Rattle.homography.specs.Homography.{squareToQuad, mapPoint, mapAnswer}
+use Rattle.homography.specs.Homography.{mapPoint}
+use Rattle.quad.specs.declared.MapAnswer.{MapAnswer}
+use Rattle.quad.specs.Quad.{squareToQuad, mapAnswer}
 use Rattle.line.specs.declared.Line2.{Line2}
 use Rattle.line.specs.declared.CrossAnswer.{CrossAnswer}
 use Rattle.line.specs.Line.{line, crossing, crossAnswer}
@@ -159,7 +162,7 @@ right (c ∷ cs) = eqb (outcome (c .0) .number) (c .1 .number) && sameValues (ou
 
 pub worked : T (right cases)
 unfolding right sameValues cases outcome only rightwards ofPoint ofSample ofMap ofCrossing allDark quarters toBits
-    Ieee.opened Root.opened Photograph.opened Footprint.opened Sampling.opened Homography.opened Line.opened Peak.opened Profile.opened Grids.opened
+    Ieee.opened Root.opened Photograph.opened Footprint.opened Sampling.opened Homography.opened Quad.opened Line.opened Peak.opened Profile.opened Grids.opened
 worked = tt
 
 -- ---- the grey photograph
@@ -185,6 +188,6 @@ grey-photograph = record { bytes = replicate 16 128; stride = 4 }
 
 pub grey-is-thin : T (eqb (refine grey (1 ∷ 1 ∷ 1 ∷ 1 ∷ []) grey-photograph .number) 9)
 unfolding grey grey-photograph at
-    Ieee.opened Root.opened Pixel.opened Photograph.opened Footprint.opened Sampling.opened SampleTree.opened Homography.opened Line.opened Fit.opened
-    Peak.opened Profile.opened Grids.opened Probe.opened Edge.opened Corners.opened Rounds.opened Requests.opened Refine.opened
+    Ieee.opened Root.opened Pixel.opened Photograph.opened Footprint.opened Sampling.opened SampleTree.opened Homography.opened Quad.opened Line.opened Fit.opened
+    Peak.opened Profile.opened Grids.opened Probe.opened Edge.opened Edges.opened Corners.opened Rounds.opened Requests.opened Refine.opened
 grey-is-thin = tt

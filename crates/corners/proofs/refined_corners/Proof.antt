@@ -60,7 +60,7 @@ returns c =
     let place2 = place3 .before .before in
     let place1 = place2 .before .before in
     let crossed = place1 .before .before .before in
-    rw (
+    simp (
       place1 .or-else .ensures,
       place2 .or-else2 .ensures,
       place3 .or-else3 .ensures,

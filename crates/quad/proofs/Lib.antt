@@ -1,0 +1,3 @@
+pub mod Laws
+-- the definitions opened together
+pub mod Opened

@@ -1,0 +1,2 @@
+-- What the contracts of `quad` cite.
+pub mod Quad
