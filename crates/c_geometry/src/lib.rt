@@ -1,7 +1,8 @@
 // The calls for C and Rust about maps and lines, each over the lists and buffers that it is lent: `export` hands every one on as it is.
 ghost use mathlib.Core.Path.{_≡_};
 ghost use Rattle.homography.specs.Homography.{squareToQuad, quadToQuad, mapAnswer, mapPoint, scaled as scaledBy, inverse as inverseOf, composed};
-ghost use Rattle.line.specs.Line.{fitLine, lineAnswer, crossing, crossAnswer};
+ghost use Rattle.line.specs.Line.{crossing, crossAnswer};
+ghost use Rattle.line_fit.specs.LineFit.{fitLine, lineAnswer};
 ghost use Rattle.c_lists.specs.Lent.{quadOf, mapOf, lineOf};
 ghost use Rattle.c_buffers.specs.Buffers.{withPlace, withLine, withMap};
 use homography::PerspectiveTransform;
@@ -72,7 +73,7 @@ pub fn fit_line_tls_weighted(xs: &[f64], ys: &[f64], weights: &[f64], line: &mut
     ensures { λ _. ⌜ now (line .exit) ≡ withLine (lineAnswer (fitLine (now (xs .entry)) (now (ys .entry)) (now (weights .entry))) .line)
         (now (line .entry)) ⌝ }
 {
-    let fitted = line::fit_line_tls_weighted(xs, ys, weights);
+    let fitted = line_fit::fit_line_tls_weighted(xs, ys, weights);
     c_buffers::put_line(line, fitted.line);
     fitted.number
 }
