@@ -2,7 +2,8 @@
 ghost use mathlib.Core.Path.{_≡_};
 ghost use Rattle.homography.specs.Homography.{mapPoint, scaled as scaledBy, inverse as inverseOf, composed};
 ghost use Rattle.quad.specs.Quad.{squareToQuad, quadToQuad, mapAnswer};
-ghost use Rattle.line.specs.Line.{fitLine, lineAnswer, crossing, crossAnswer};
+ghost use Rattle.line.specs.Line.{crossing, crossAnswer};
+ghost use Rattle.line_fit.specs.LineFit.{fitLine, lineAnswer};
 ghost use Rattle.c_lists.specs.Lent.{quadOf, mapOf, lineOf};
 ghost use Rattle.c_buffers.specs.Buffers.{withPlace, withLine, withMap};
 use homography::PerspectiveTransform;
@@ -73,7 +74,7 @@ pub fn fit_line_tls_weighted(xs: &[f64], ys: &[f64], weights: &[f64], line: &mut
     ensures { λ _. ⌜ now (line .exit) ≡ withLine (lineAnswer (fitLine (now (xs .entry)) (now (ys .entry)) (now (weights .entry))) .line)
         (now (line .entry)) ⌝ }
 {
-    let fitted = line::fit_line_tls_weighted(xs, ys, weights);
+    let fitted = line_fit::fit_line_tls_weighted(xs, ys, weights);
     c_buffers::put_line(line, fitted.line);
     fitted.number
 }

@@ -11,9 +11,9 @@ use Rattle.prelude.proofs.Branches.{either}
 use Rattle.consts.specs.declared.Settings.{Settings}
 use Rattle.pixel.specs.declared.EdgePoint.{EdgePoint}
 use Rattle.line.specs.declared.Line2.{Line2}
-use Rattle.line.specs.declared.Fitted.{Fitted}
-use Rattle.line.specs.declared.Fitted.the-variants.{Along, Refused}
-use Rattle.line.specs.Line.{finiteTo}
+use Rattle.line_fit.specs.declared.Fitted.{Fitted}
+use Rattle.line_fit.specs.declared.Fitted.the-variants.{Along, Refused}
+use Rattle.float_lists.specs.Sums.{finiteTo}
 use Rattle.fit.specs.declared.EdgeStat.{EdgeStat}
 use Rattle.fit.specs.declared.EdgeFit.{EdgeFit}
 use Rattle.fit.specs.declared.EdgeFit.the-variants.{Refusal, TooFewPoints, LineFit}

@@ -10,7 +10,7 @@ use lib.Seq.{take-suc, take-suc-set, take-set-le, length-take-le, take-all}
 use lib.Ieee.{Float, nan}
 use Rattle.prelude.specs.Prelude.{if_then_else_}
 use Rattle.ieee.specs.Floats.{_≼_}
-use Rattle.line.specs.Sums.{at}
+use Rattle.float_lists.specs.Sums.{at}
 use Rattle.fit.specs.Fit.{inliers}
 
 inliers-snoc : (most : Float) (rs xs : List Float) (r x : Float) → length rs ≡ length xs →

@@ -15,10 +15,10 @@ use Rattle.consts.specs.Consts.{maxEdgePoints}
 use Rattle.consts.specs.declared.Settings.{Settings}
 use Rattle.pixel.specs.Pixels.{source, edgePoint}
 use Rattle.pixel.specs.declared.EdgePoint.{EdgePoint}
-use Rattle.line.specs.Sums.{at}
-use Rattle.line.specs.Line.{fitLine, finiteTo}
+use Rattle.float_lists.specs.Sums.{at, finiteTo}
+use Rattle.line_fit.specs.LineFit.{fitLine}
 use Rattle.line.specs.declared.Line2.{Line2}
-use Rattle.line.specs.declared.Fitted.the-variants.{Along}
+use Rattle.line_fit.specs.declared.Fitted.the-variants.{Along}
 use Rattle.fit.specs.declared.EdgeFit.the-variants.{Refusal, TooFewPoints}
 use Rattle.fit.specs.Lent.{Paired, Least}
 use Rattle.fit.specs.Fit.{pointsOf, fitPoints, residual, residuals, inliers, stat, lined, refit, rejectOutliers, firstFit, fitEdge, threshold}

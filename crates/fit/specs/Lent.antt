@@ -8,7 +8,7 @@ use lib.ListN.{length, take}
 use lib.Ieee.{Float}
 use Rattle.ieee.specs.Floats.{_≺_}
 use Rattle.consts.specs.Consts.{maxEdgePoints}
-use Rattle.line.specs.Sums.{at}
+use Rattle.float_lists.specs.Sums.{at}
 use Rattle.fit.specs.Fit.{inliers}
 
 -- as many x as y and weights, and no more than an array holds

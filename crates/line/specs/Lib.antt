@@ -1,3 +1,2 @@
 -- What the contracts of `line` cite.
-pub mod Sums
 pub mod Line

@@ -1,0 +1,2 @@
+-- The laws that the proofs of `float_lists` cite, and those that the crates above do.
+pub mod Laws

@@ -1,0 +1,2 @@
+-- What the contracts of `float_lists` cite.
+pub mod Sums

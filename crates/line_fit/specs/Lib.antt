@@ -1,0 +1,2 @@
+-- What the contracts of `line_fit` cite.
+pub mod LineFit
