@@ -212,7 +212,7 @@ static inline const char *trufolmesca_word(uint32_t number) {
     switch (number) {
     case TRUFOLMESCA_ANSWER: return "answered";
     case TRUFOLMESCA_SIZE: return "the picture is empty, or wider or higher than 16384 pixels";
-    case TRUFOLMESCA_PHOTOGRAPH: return "the pixels are fewer than width times height";
+    case TRUFOLMESCA_PHOTOGRAPH: return "the stride is wrong, or the pixels are fewer than width and height ask for";
     case TRUFOLMESCA_GRID: return "the grid is not a square of 2 to 177 rows of 0 and 1";
     case TRUFOLMESCA_SCALE: return "a scale is not a number above 0";
     case TRUFOLMESCA_CORNER: return "a rough corner is not a number, or lies far outside of any picture";

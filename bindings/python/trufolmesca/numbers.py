@@ -33,7 +33,7 @@ class Number(IntEnum):
 WORDS: dict[int, str] = {
     Number.ANSWER: "answered",
     Number.SIZE: "the picture is empty, or wider or higher than 16384 pixels",
-    Number.PHOTOGRAPH: "the pixels are fewer than width times height",
+    Number.PHOTOGRAPH: "the stride is wrong, or the pixels are fewer than width and height ask for",
     Number.GRID: "the grid is not a square of 2 to 177 rows of 0 and 1",
     Number.SCALE: "a scale is not a number above 0",
     Number.CORNER: "a rough corner is not a number, or lies far outside of any picture",

@@ -41,7 +41,7 @@ macro_rules! refusals {
 
 refusals! {
     1 SIZE "the picture is empty, or wider or higher than 16384 pixels"
-    2 PHOTOGRAPH "the pixels are fewer than width times height"
+    2 PHOTOGRAPH "the stride is wrong, or the pixels are fewer than width and height ask for"
     3 GRID "the grid is not a square of 2 to 177 rows of 0 and 1"
     4 SCALE "a scale is not a number above 0"
     5 CORNER "a rough corner is not a number, or lies far outside of any picture"
