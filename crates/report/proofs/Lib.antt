@@ -1,3 +1,3 @@
--- What the proofs of several functions cite.
-pub mod Pieces
-pub mod Digits
+-- What the proofs cite, and those of the crates above.
+pub mod Lengths
+pub mod Lines

@@ -3,15 +3,15 @@
 -- and after 0, for each of the indices 0 to 3,
 --   corner INDEX X Y FLAG       x and y as the 16 hexadecimal digits of their bits
 --   edge INDEX PROBED FIT DROPPED VALID
-use Prim.Native.Nat.{ℕ, zero, suc, _/_, _%_}
+use Prim.Native.Nat.{ℕ}
 use mathlib.Core.Bool.{Bool, false}
 use mathlib.Core.List.{List, [], _∷_, _++_}
-use lib.Dec.{ltb, eqb}
+use lib.Dec.{eqb}
 use lib.ListN.{getD}
 use lib.Ieee.{binary64, toBits}
 use Rattle.prelude.specs.Prelude.{if_then_else_, bit}
-use Rattle.io.specs.Digits.{glyph, digits}
 use Rattle.number.specs.Numbers as number
+use Rattle.text.specs.Text.{decimal, hexadecimal}
 use Rattle.pixel.specs.Pixels.{corner}
 use Rattle.pixel.specs.declared.SourcePixel.{SourcePixel}
 use Rattle.fit.specs.declared.EdgeStat.{EdgeStat}
@@ -19,25 +19,11 @@ use Rattle.fit.specs.Fit.{stat}
 use Rattle.corners.specs.declared.RefinedCorners.{RefinedCorners}
 use Rattle.corners.specs.declared.Answer.{Answer}
 
--- ---- fields
+-- ---- lines
 
--- the decimal digits of a number that has at most k
-unfoldable pub decimalTo : ℕ → ℕ → List ℕ
-decimalTo zero n = []
-decimalTo (suc k) n = if ltb n 10 then glyph n ∷ [] else decimalTo k (n / 10) ++ glyph (n % 10) ∷ []
-
--- a field stands behind a space, 32; 20 digits hold 64 bits
-unfoldable pub decimal : ℕ → List ℕ
-decimal n = 32 ∷ decimalTo 20 n
-
-unfoldable pub hexadecimal : ℕ → List ℕ
-hexadecimal n = 32 ∷ digits 16 16 n
-
--- the line's end
+-- a line's end
 abbrev pub end : List ℕ
 end = 10 ∷ []
-
--- ---- lines
 
 -- result
 unfoldable pub resultLine : ℕ → List ℕ

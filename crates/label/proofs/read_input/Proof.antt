@@ -4,7 +4,7 @@ use mathlib.Core.Path.{_≡_}
 use native.Mathlib.Omega.{arith}
 use borrow.Author.Needs.{needs}
 use lib.ListN.{length}
-use Rattle.report.proofs.Pieces.{counted}
+use Rattle.report.proofs.Lines.{counted}
 use Rattle.label.proofs.read_input.Statement.{statement}
 use Rattle.label.proofs.read_input.Tie as tie
 

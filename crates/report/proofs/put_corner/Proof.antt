@@ -1,7 +1,6 @@
 -- `report::put_corner` meets its contract: six pieces, one behind the other. Assumes nothing.
-use native.Mathlib.Omega.{arith}
 use borrow.Author.Needs.{needs}
-use Rattle.report.proofs.Pieces.{then}
+use Rattle.text.proofs.Pieces.{then}
 use Rattle.report.specs.Lines.{cornerLine}
 use Rattle.report.proofs.put_corner.Statement.{statement}
 use Rattle.report.proofs.put_corner.Tie as tie
@@ -47,11 +46,9 @@ returns c =
     let four = five .before .before .before .before in
     let three = four .before .before .before .before .before in
     let two = three .before .before .before .before .before in
-    let one = two .before .before .before .before in (
-      rw (← (three .before .bits-of .ensures), ← (four .before .bits-of2 .ensures))
-          (then (one .put-text .ensures) (then (two .put-decimal .ensures .0) (then (three .put-hexadecimal .ensures .0) (then (four .put-hexadecimal2 .ensures .0) (then (five .put-bit .ensures .0) (six .put-text2 .ensures)))))),
-      omega (arith, one .put-text .ensures .on, two .put-decimal .ensures .1, three .put-hexadecimal .ensures .1, four .put-hexadecimal2 .ensures .1, five .put-bit .ensures .1, six .put-text2 .ensures .on),
-    )
+    let one = two .before .before .before .before in
+    rw (← (three .before .bits-of .ensures), ← (four .before .bits-of2 .ensures))
+    (then (one .put-text .ensures) (then (two .put-decimal .ensures) (then (three .put-hexadecimal .ensures) (then (four .put-hexadecimal2 .ensures) (then (five .put-bit .ensures) (six .put-text2 .ensures))))))
 
 pub put-corner-spec : {M : Type 1} → statement M
 put-corner-spec =

@@ -1,7 +1,6 @@
 -- `report::put_corners` meets its contract: four lines, one behind the other. Assumes nothing.
-use native.Mathlib.Omega.{arith}
 use borrow.Author.Needs.{needs}
-use Rattle.report.proofs.Pieces.{then}
+use Rattle.text.proofs.Pieces.{then}
 use Rattle.report.specs.Lines.{cornerLines}
 use Rattle.report.proofs.put_corners.Statement.{statement}
 use Rattle.report.proofs.put_corners.Tie as tie
@@ -51,10 +50,8 @@ returns c =
     let four = c .before .before in
     let three = four .before .before .before .before .before .before in
     let two = three .before .before .before .before .before .before in
-    let one = two .before .before .before .before .before .before in (
-      then (one .put-corner .ensures .0) (then (two .put-corner2 .ensures .0) (then (three .put-corner3 .ensures .0) (four .put-corner4 .ensures .0))),
-      omega (arith, one .put-corner .ensures .1, two .put-corner2 .ensures .1, three .put-corner3 .ensures .1, four .put-corner4 .ensures .1),
-    )
+    let one = two .before .before .before .before .before .before in
+    then (one .put-corner .ensures) (then (two .put-corner2 .ensures) (then (three .put-corner3 .ensures) (four .put-corner4 .ensures)))
 
 pub put-corners-spec : {M : Type 1} → statement M
 put-corners-spec =

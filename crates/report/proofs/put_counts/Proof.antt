@@ -1,7 +1,6 @@
 -- `report::put_counts` meets its contract: four pieces, one behind the other. Assumes nothing.
-use native.Mathlib.Omega.{arith}
 use borrow.Author.Needs.{needs}
-use Rattle.report.proofs.Pieces.{then}
+use Rattle.text.proofs.Pieces.{then}
 use Rattle.report.specs.Lines.{countFields}
 use Rattle.report.proofs.put_counts.Statement.{statement}
 use Rattle.report.proofs.put_counts.Tie as tie
@@ -36,10 +35,8 @@ returns c =
     let four = c .before .before in
     let three = four .before .before .before .before in
     let two = three .before .before .before .before .before in
-    let one = two .before .before .before .before .before in (
-      then (one .put-decimal .ensures .0) (then (two .put-decimal2 .ensures .0) (then (three .put-decimal3 .ensures .0) (four .put-bit .ensures .0))),
-      omega (arith, one .put-decimal .ensures .1, two .put-decimal2 .ensures .1, three .put-decimal3 .ensures .1, four .put-bit .ensures .1),
-    )
+    let one = two .before .before .before .before .before in
+    then (one .put-decimal .ensures) (then (two .put-decimal2 .ensures) (then (three .put-decimal3 .ensures) (four .put-bit .ensures)))
 
 pub put-counts-spec : {M : Type 1} → statement M
 put-counts-spec =

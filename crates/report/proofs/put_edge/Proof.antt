@@ -1,7 +1,6 @@
 -- `report::put_edge` meets its contract: four pieces, one behind the other. Assumes nothing.
-use native.Mathlib.Omega.{arith}
 use borrow.Author.Needs.{needs}
-use Rattle.report.proofs.Pieces.{then}
+use Rattle.text.proofs.Pieces.{then}
 use Rattle.report.specs.Lines.{edgeLine}
 use Rattle.report.proofs.put_edge.Statement.{statement}
 use Rattle.report.proofs.put_edge.Tie as tie
@@ -33,10 +32,8 @@ returns c =
     let four = c .before .before in
     let three = four .before .before .before .before .before in
     let two = three .before .before .before .before in
-    let one = two .before .before .before .before in (
-      then (one .put-text .ensures) (then (two .put-decimal .ensures .0) (then (three .put-counts .ensures .0) (four .put-text2 .ensures))),
-      omega (arith, one .put-text .ensures .on, two .put-decimal .ensures .1, three .put-counts .ensures .1, four .put-text2 .ensures .on),
-    )
+    let one = two .before .before .before .before in
+    then (one .put-text .ensures) (then (two .put-decimal .ensures) (then (three .put-counts .ensures) (four .put-text2 .ensures)))
 
 pub put-edge-spec : {M : Type 1} → statement M
 put-edge-spec =

@@ -1,7 +1,6 @@
 -- `report::put_edges` meets its contract: four lines, one behind the other. Assumes nothing.
-use native.Mathlib.Omega.{arith}
 use borrow.Author.Needs.{needs}
-use Rattle.report.proofs.Pieces.{then}
+use Rattle.text.proofs.Pieces.{then}
 use Rattle.report.specs.Lines.{edgeLines}
 use Rattle.report.proofs.put_edges.Statement.{statement}
 use Rattle.report.proofs.put_edges.Tie as tie
@@ -39,10 +38,8 @@ returns c =
     let four = c .before .before in
     let three = four .before .before .before .before .before in
     let two = three .before .before .before .before .before in
-    let one = two .before .before .before .before .before in (
-      then (one .put-edge .ensures .0) (then (two .put-edge2 .ensures .0) (then (three .put-edge3 .ensures .0) (four .put-edge4 .ensures .0))),
-      omega (arith, one .put-edge .ensures .1, two .put-edge2 .ensures .1, three .put-edge3 .ensures .1, four .put-edge4 .ensures .1),
-    )
+    let one = two .before .before .before .before .before in
+    then (one .put-edge .ensures) (then (two .put-edge2 .ensures) (then (three .put-edge3 .ensures) (four .put-edge4 .ensures)))
 
 pub put-edges-spec : {M : Type 1} → statement M
 put-edges-spec =

@@ -1,7 +1,6 @@
 -- `report::put_result` meets its contract: three pieces, one behind the other. Assumes nothing.
-use native.Mathlib.Omega.{arith}
 use borrow.Author.Needs.{needs}
-use Rattle.report.proofs.Pieces.{then}
+use Rattle.text.proofs.Pieces.{then}
 use Rattle.report.specs.Lines.{resultLine}
 use Rattle.report.proofs.put_result.Statement.{statement}
 use Rattle.report.proofs.put_result.Tie as tie
@@ -29,10 +28,8 @@ unfolding resultLine
 returns c =
     let three = c .before .before in
     let two = three .before .before .before .before .before in
-    let one = two .before .before .before .before in (
-      then (one .put-text .ensures) (then (two .put-decimal .ensures .0) (three .put-text2 .ensures)),
-      omega (arith, one .put-text .ensures .on, two .put-decimal .ensures .1, three .put-text2 .ensures .on),
-    )
+    let one = two .before .before .before .before in
+    then (one .put-text .ensures) (then (two .put-decimal .ensures) (three .put-text2 .ensures))
 
 pub put-result-spec : {M : Type 1} → statement M
 put-result-spec =

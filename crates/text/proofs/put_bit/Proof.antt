@@ -1,7 +1,7 @@
--- `report::put_bit` meets its contract: each way writes the number that `bit` gives. Assumes nothing.
+-- `text::put_bit` meets its contract: each way writes the number that `bit` gives. Assumes nothing.
 use borrow.Author.Needs.{needs}
-use Rattle.report.proofs.put_bit.Statement.{statement}
-use Rattle.report.proofs.put_bit.Tie as tie
+use Rattle.text.proofs.put_bit.Statement.{statement}
+use Rattle.text.proofs.put_bit.Tie as tie
 
 put-decimal-requires : tie.Need-put-decimal-requires
 put-decimal-requires c κs = search needs
@@ -12,7 +12,7 @@ same-length c = search needs
 returns : tie.Need-returns
 returns c =
     let called = c .before .before in
-    (rw (called .before .before .if1 .taken) (called .put-decimal .ensures .0), called .put-decimal .ensures .1)
+    rw (called .before .before .if1 .taken) (called .put-decimal .ensures)
 
 put-decimal-requires-2 : tie.Need-put-decimal-requires-2
 put-decimal-requires-2 c κs = search needs
@@ -23,7 +23,7 @@ same-length-2 c = search needs
 returns-2 : tie.Need-returns-2
 returns-2 c =
     let called = c .before .before in
-    (rw (called .before .before .if1 .left) (called .put-decimal2 .ensures .0), called .put-decimal2 .ensures .1)
+    rw (called .before .before .if1 .left) (called .put-decimal2 .ensures)
 
 pub put-bit-spec : {M : Type 1} → statement M
 put-bit-spec =

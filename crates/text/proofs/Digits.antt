@@ -1,19 +1,20 @@
 -- The digits that `io` writes are those of the definition: the fewest that hold a number are the digits that dividing it by 10 gives until it is
 -- below 10, and 16 hexadecimal digits hold 64 bits. Assumes nothing.
 use Prim.Native.Nat.{ℕ, zero, suc, _+_, _-_, _*_, _/_, _%_, _^_, _≤_, _<_}
-use mathlib.Core.Path.{_≡_, ap, subst, _∙_}
+use mathlib.Core.Path.{_≡_, refl, ap, subst, _∙_}
 use mathlib.Core.List.{List, [], _∷_, _++_}
 use native.Mathlib.Omega.{arith}
 use native.Mathlib.Nat.{mod-eq-of-lt, div-lt-iff-lt-mul, le-div-iff-mul-le, pow-suc, pow-le-pow-right, one-le-pow}
 use borrow.Author.Tests.{lt-ltb, le-ltb, leb-true, leb-false}
-use lib.Dec.{leb}
+use lib.Dec.{leb, ltb}
+use lib.ListN.{length, length-append}
 use Rattle.io.specs.Digits.{glyph, digits, Fewest}
-use Rattle.prelude.proofs.Branches.{by-test}
-use Rattle.report.specs.Lines.{decimalTo, decimal, hexadecimal}
+use Rattle.prelude.proofs.Branches.{by-test, either}
+use Rattle.text.specs.Text.{decimalTo, decimal, hexadecimal}
 
 -- ---- decimal
 
-pub decimal-digits : (fuel n k : ℕ) → k ≤ fuel → Fewest 10 1 n k → digits 10 k n ≡ decimalTo fuel n
+decimal-digits : (fuel n k : ℕ) → k ≤ fuel → Fewest 10 1 n k → digits 10 k n ≡ decimalTo fuel n
 unfolding decimalTo
 decimal-digits fuel n zero room f = absurd (omega (arith, f .0))
 decimal-digits zero n (suc k) room f = absurd (omega arith)
@@ -45,8 +46,28 @@ at-most b least n k most some less holds f = by-test (leb k most)
     absurd (omega (arith, f .2 (omega arith))))
 
 -- 20 decimal digits hold 64 bits
-pub decimal-few : (n k : ℕ) → n < 2 ^ 64 → Fewest 10 1 n k → k ≤ 20
+decimal-few : (n k : ℕ) → n < 2 ^ 64 → Fewest 10 1 n k → k ≤ 20
 decimal-few n k small f = at-most 10 1 n k 20 (omega arith) (omega arith) (omega arith) f
+
+length-decimalTo : (k n : ℕ) → length (decimalTo k n) ≤ k
+unfolding decimalTo
+length-decimalTo zero n = omega arith
+length-decimalTo (suc k) n =
+    either (λ (s : List ℕ). length s ≤ suc k) (ltb n 10) {x = glyph n ∷ []} {y = decimalTo k (n / 10) ++ glyph (n % 10) ∷ []}
+    (omega arith)
+    (simp length-append (omega (arith, length-decimalTo k (n / 10))))
+
+pub length-decimal : (n : ℕ) → length (decimal n) ≤ 21
+unfolding decimal
+length-decimal n = omega (arith, length-decimalTo 20 n)
+
+length-digits : (b k n : ℕ) → length (digits b k n) ≡ k
+length-digits b zero n = refl
+length-digits b (suc k) n = simp length-append (omega (arith, length-digits b k (n / b)))
+
+pub length-hexadecimal : (n : ℕ) → length (hexadecimal n) ≡ 17
+unfolding hexadecimal
+length-hexadecimal n = ap suc (length-digits 16 16 n)
 
 -- what `io` wrote behind a space is the field
 pub decimal-field : (n k : ℕ) (s : List ℕ) → n < 2 ^ 64 → Fewest 10 1 n k → s ≡ digits 10 k n → 32 ∷ s ≡ decimal n
@@ -54,7 +75,7 @@ unfolding decimal
 decimal-field n k s small f e = ap (λ (t : List ℕ). 32 ∷ t) (e ∙ decimal-digits 20 n k (decimal-few n k small f) f)
 
 -- and 16 hexadecimal ones
-pub hexadecimal-width : (n k : ℕ) → n < 2 ^ 64 → Fewest 16 16 n k → k ≡ 16
+hexadecimal-width : (n k : ℕ) → n < 2 ^ 64 → Fewest 16 16 n k → k ≡ 16
 hexadecimal-width n k small f = omega (arith, f .0, at-most 16 16 n k 16 (omega arith) (omega arith) (omega arith) f)
 
 pub hexadecimal-field : (n k : ℕ) (s : List ℕ) → n < 2 ^ 64 → Fewest 16 16 n k → s ≡ digits 16 k n → 32 ∷ s ≡ hexadecimal n

@@ -1,0 +1,3 @@
+-- What the proofs of several functions cite, and those of the crates above.
+pub mod Pieces
+pub mod Digits
