@@ -1,4 +1,4 @@
-// The leaf calls: each hands on what the one of its name in `c_geometry` or `c_samples` gives.
+// The leaf calls: each hands on what the one of its name in `c_maps`, `c_lines` or `c_samples` gives.
 ghost use mathlib.Core.Path.{_≡_};
 ghost use lib.ListN.{set};
 ghost use lib.Ieee.{binary64};
@@ -58,47 +58,47 @@ pub extern "C" fn trufolmesca_rectified_to_source(
 
 // ---- homography.rs
 
-// The map of the unit square onto four corners: `c_geometry::square_to_quad` under its name for C.
+// The map of the unit square onto four corners: `c_maps::square_to_quad` under its name for C.
 #[no_mangle]
 pub extern "C" fn trufolmesca_square_to_quad(corners: &[f64], map: &mut [f64]) -> u32
     ensures { λ r. ⌜ r ≡ mapAnswer (squareToQuad (quadOf (now (corners .entry)))) .number ⌝ }
     ensures { λ _. ⌜ now (map .exit) ≡ withMap (mapAnswer (squareToQuad (quadOf (now (corners .entry)))) .map) (now (map .entry)) ⌝ }
 {
-    c_geometry::square_to_quad(corners, map)
+    c_maps::square_to_quad(corners, map)
 }
 
-// The map of four corners onto four others: `c_geometry::quad_to_quad` under its name for C.
+// The map of four corners onto four others: `c_maps::quad_to_quad` under its name for C.
 #[no_mangle]
 pub extern "C" fn trufolmesca_quad_to_quad(from: &[f64], to: &[f64], map: &mut [f64]) -> u32
     ensures { λ r. ⌜ r ≡ mapAnswer (quadToQuad (quadOf (now (from .entry))) (quadOf (now (to .entry)))) .number ⌝ }
     ensures { λ _. ⌜ now (map .exit) ≡ withMap (mapAnswer (quadToQuad (quadOf (now (from .entry))) (quadOf (now (to .entry)))) .map)
         (now (map .entry)) ⌝ }
 {
-    c_geometry::quad_to_quad(from, to, map)
+    c_maps::quad_to_quad(from, to, map)
 }
 
-// Where a map sends u, v: `c_geometry::map` under its name for C.
+// Where a map sends u, v: `c_maps::map` under its name for C.
 #[no_mangle]
 pub extern "C" fn trufolmesca_map(map: &[f64], u: f64, v: f64, place: &mut [f64])
     ensures { λ _. ⌜ now (place .exit) ≡ withPlace (mapPoint (mapOf (now (map .entry))) u v) (now (place .entry)) ⌝ }
 {
-    c_geometry::map(map, u, v, place);
+    c_maps::map(map, u, v, place);
 }
 
-// The map that scales: `c_geometry::scaled` under its name for C.
+// The map that scales: `c_maps::scaled` under its name for C.
 #[no_mangle]
 pub extern "C" fn trufolmesca_scaled(sx: f64, sy: f64, map: &mut [f64])
     ensures { λ _. ⌜ now (map .exit) ≡ withMap (scaled sx sy) (now (map .entry)) ⌝ }
 {
-    c_geometry::scaled(sx, sy, map);
+    c_maps::scaled(sx, sy, map);
 }
 
-// The inverse of a map: `c_geometry::inverse` under its name for C.
+// The inverse of a map: `c_maps::inverse` under its name for C.
 #[no_mangle]
 pub extern "C" fn trufolmesca_inverse(map: &[f64], out: &mut [f64])
     ensures { λ _. ⌜ now (out .exit) ≡ withMap (inverse (mapOf (now (map .entry)))) (now (out .entry)) ⌝ }
 {
-    c_geometry::inverse(map, out);
+    c_maps::inverse(map, out);
 }
 
 // The inner map first, and the outer one after it.
@@ -106,12 +106,12 @@ pub extern "C" fn trufolmesca_inverse(map: &[f64], out: &mut [f64])
 pub extern "C" fn trufolmesca_then(inner: &[f64], outer: &[f64], out: &mut [f64])
     ensures { λ _. ⌜ now (out .exit) ≡ withMap (composed (mapOf (now (inner .entry))) (mapOf (now (outer .entry)))) (now (out .entry)) ⌝ }
 {
-    c_geometry::then(inner, outer, out);
+    c_maps::then(inner, outer, out);
 }
 
 // ---- line.rs
 
-// The line through weighted points: `c_geometry::fit_line_tls_weighted` under its name for C.
+// The line through weighted points: `c_lines::fit_line_tls_weighted` under its name for C.
 #[no_mangle]
 pub extern "C" fn trufolmesca_fit_line_tls_weighted(
     xs: &[f64],
@@ -123,17 +123,17 @@ pub extern "C" fn trufolmesca_fit_line_tls_weighted(
     ensures { λ _. ⌜ now (line .exit) ≡ withLine (lineAnswer (fitLine (now (xs .entry)) (now (ys .entry)) (now (weights .entry))) .line)
         (now (line .entry)) ⌝ }
 {
-    c_geometry::fit_line_tls_weighted(xs, ys, weights, line)
+    c_lines::fit_line_tls_weighted(xs, ys, weights, line)
 }
 
-// Where two lines cross: `c_geometry::intersect_lines` under its name for C.
+// Where two lines cross: `c_lines::intersect_lines` under its name for C.
 #[no_mangle]
 pub extern "C" fn trufolmesca_intersect_lines(a: &[f64], b: &[f64], place: &mut [f64]) -> u32
     ensures { λ r. ⌜ r ≡ crossAnswer (crossing (lineOf (now (a .entry))) (lineOf (now (b .entry)))) .number ⌝ }
     ensures { λ _. ⌜ now (place .exit) ≡ withPlace (crossAnswer (crossing (lineOf (now (a .entry))) (lineOf (now (b .entry)))) .place)
         (now (place .entry)) ⌝ }
 {
-    c_geometry::intersect_lines(a, b, place)
+    c_lines::intersect_lines(a, b, place)
 }
 
 // ---- refine.rs, `localize_edge_point`

@@ -1,7 +1,7 @@
--- `c_geometry::fit_line_tls_weighted` meets its contract: it hands on what its callees answer. Assumes nothing.
+-- `c_lines::fit_line_tls_weighted` meets its contract: it hands on what its callees answer. Assumes nothing.
 use borrow.Author.Needs.{needs}
-use Rattle.c_geometry.proofs.fit_line_tls_weighted.Statement.{statement}
-use Rattle.c_geometry.proofs.fit_line_tls_weighted.Tie as tie
+use Rattle.c_lines.proofs.fit_line_tls_weighted.Statement.{statement}
+use Rattle.c_lines.proofs.fit_line_tls_weighted.Tie as tie
 
 fit-line-tls-weighted-requires : tie.Need-fit-line-tls-weighted-requires
 fit-line-tls-weighted-requires c κs = search needs

@@ -1,14 +1,10 @@
-// The calls for C and Rust about maps and lines, each over the lists and buffers that it is lent: `export` hands every one on as it is.
+// The calls for C and Rust about maps, each over the lists and buffers that it is lent: `export` hands every one on as it is.
 ghost use mathlib.Core.Path.{_≡_};
 ghost use Rattle.homography.specs.Homography.{mapPoint, scaled as scaledBy, inverse as inverseOf, composed};
 ghost use Rattle.quad.specs.Quad.{squareToQuad, quadToQuad, mapAnswer};
-ghost use Rattle.line.specs.Line.{crossing, crossAnswer};
-ghost use Rattle.line_fit.specs.LineFit.{fitLine, lineAnswer};
-ghost use Rattle.c_lists.specs.Lent.{quadOf, mapOf, lineOf};
-ghost use Rattle.c_buffers.specs.Buffers.{withPlace, withLine, withMap};
+ghost use Rattle.c_lists.specs.Lent.{quadOf, mapOf};
+ghost use Rattle.c_buffers.specs.Buffers.{withPlace, withMap};
 use homography::PerspectiveTransform;
-
-// ---- homography.rs
 
 // The map of the unit square to a quad, or 8 where it has none.
 pub fn square_to_quad(corners: &[f64], map: &mut [f64]) -> u32
@@ -64,30 +60,4 @@ pub fn then(inner: &[f64], outer: &[f64], out: &mut [f64])
     let i = c_lists::map_of(inner);
     let o = c_lists::map_of(outer);
     c_buffers::put_map(out, i.then(o));
-}
-
-// ---- line.rs
-
-// The line through weighted points, or the number of what is wrong with them: 13 to 16, 10, 11.
-pub fn fit_line_tls_weighted(xs: &[f64], ys: &[f64], weights: &[f64], line: &mut [f64]) -> u32
-    ensures { λ r. ⌜ r ≡ lineAnswer (fitLine (now (xs .entry)) (now (ys .entry)) (now (weights .entry))) .number ⌝ }
-    ensures { λ _. ⌜ now (line .exit) ≡ withLine (lineAnswer (fitLine (now (xs .entry)) (now (ys .entry)) (now (weights .entry))) .line)
-        (now (line .entry)) ⌝ }
-{
-    let fitted = line_fit::fit_line_tls_weighted(xs, ys, weights);
-    c_buffers::put_line(line, fitted.line);
-    fitted.number
-}
-
-// Where two lines cross, as a place on the first, or 18.
-pub fn intersect_lines(a: &[f64], b: &[f64], place: &mut [f64]) -> u32
-    ensures { λ r. ⌜ r ≡ crossAnswer (crossing (lineOf (now (a .entry))) (lineOf (now (b .entry)))) .number ⌝ }
-    ensures { λ _. ⌜ now (place .exit) ≡ withPlace (crossAnswer (crossing (lineOf (now (a .entry))) (lineOf (now (b .entry)))) .place)
-        (now (place .entry)) ⌝ }
-{
-    let first = c_lists::line_of(a);
-    let second = c_lists::line_of(b);
-    let crossed = line::intersect_lines(first, second);
-    c_buffers::put_place(place, crossed.place);
-    crossed.number
 }

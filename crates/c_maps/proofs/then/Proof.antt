@@ -1,7 +1,7 @@
--- `c_geometry::then` meets its contract: it hands on what its callees answer. Assumes nothing.
+-- `c_maps::then` meets its contract: it hands on what its callees answer. Assumes nothing.
 use borrow.Author.Needs.{needs}
-use Rattle.c_geometry.proofs.then.Statement.{statement}
-use Rattle.c_geometry.proofs.then.Tie as tie
+use Rattle.c_maps.proofs.then.Statement.{statement}
+use Rattle.c_maps.proofs.then.Tie as tie
 
 map-of-requires : tie.Need-map-of-requires
 map-of-requires c κs = search needs

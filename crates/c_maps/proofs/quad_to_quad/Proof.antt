@@ -1,7 +1,7 @@
--- `c_geometry::quad_to_quad` meets its contract: it hands on what its callees answer. Assumes nothing.
+-- `c_maps::quad_to_quad` meets its contract: it hands on what its callees answer. Assumes nothing.
 use borrow.Author.Needs.{needs}
-use Rattle.c_geometry.proofs.quad_to_quad.Statement.{statement}
-use Rattle.c_geometry.proofs.quad_to_quad.Tie as tie
+use Rattle.c_maps.proofs.quad_to_quad.Statement.{statement}
+use Rattle.c_maps.proofs.quad_to_quad.Tie as tie
 
 quad-of-requires : tie.Need-quad-of-requires
 quad-of-requires c κs = search needs

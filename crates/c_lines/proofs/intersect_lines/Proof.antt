@@ -1,7 +1,7 @@
--- `c_geometry::intersect_lines` meets its contract: it hands on what its callees answer. Assumes nothing.
+-- `c_lines::intersect_lines` meets its contract: it hands on what its callees answer. Assumes nothing.
 use borrow.Author.Needs.{needs}
-use Rattle.c_geometry.proofs.intersect_lines.Statement.{statement}
-use Rattle.c_geometry.proofs.intersect_lines.Tie as tie
+use Rattle.c_lines.proofs.intersect_lines.Statement.{statement}
+use Rattle.c_lines.proofs.intersect_lines.Tie as tie
 
 line-of-requires : tie.Need-line-of-requires
 line-of-requires c κs = search needs

@@ -1,7 +1,7 @@
--- `c_geometry::scaled` meets its contract: it hands on what its callees answer. Assumes nothing.
+-- `c_maps::scaled` meets its contract: it hands on what its callees answer. Assumes nothing.
 use borrow.Author.Needs.{needs}
-use Rattle.c_geometry.proofs.scaled.Statement.{statement}
-use Rattle.c_geometry.proofs.scaled.Tie as tie
+use Rattle.c_maps.proofs.scaled.Statement.{statement}
+use Rattle.c_maps.proofs.scaled.Tie as tie
 
 scaled-requires : tie.Need-scaled-requires
 scaled-requires c κs = search needs

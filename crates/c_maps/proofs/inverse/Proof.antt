@@ -1,7 +1,7 @@
--- `c_geometry::inverse` meets its contract: it hands on what its callees answer. Assumes nothing.
+-- `c_maps::inverse` meets its contract: it hands on what its callees answer. Assumes nothing.
 use borrow.Author.Needs.{needs}
-use Rattle.c_geometry.proofs.inverse.Statement.{statement}
-use Rattle.c_geometry.proofs.inverse.Tie as tie
+use Rattle.c_maps.proofs.inverse.Statement.{statement}
+use Rattle.c_maps.proofs.inverse.Tie as tie
 
 map-of-requires : tie.Need-map-of-requires
 map-of-requires c κs = search needs
