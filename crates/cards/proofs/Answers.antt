@@ -6,7 +6,7 @@ use mathlib.Core.List.{List}
 use Rattle.number.specs.Numbers as number
 use Rattle.prelude.proofs.Branches.{either}
 use Rattle.grid.proofs.Counts.{limit-in-room}
-use Rattle.rounds.proofs.Answers.{Sound, refused-sound}
+use Rattle.round.proofs.Answers.{Sound, refused-sound}
 use Rattle.refine.proofs.Answers.{refine-sound}
 use Rattle.job_card.specs.JobCard.{wellFormed}
 use Rattle.job.specs.Job.{cornersOf, requestFrom, requestOf, modulesOf, photographOf}

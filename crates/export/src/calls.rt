@@ -1,10 +1,11 @@
-// The refinement calls: each hands on what the one of its name in `c_refine` gives.
+// The refinement calls: each hands on what the one of its name in `c_refine` or `c_marking` gives.
 ghost use Rattle.footprint.specs.declared.View.the-variants.{Plain};
 ghost use Rattle.request.specs.Requests.{photograph};
 ghost use Rattle.refine.specs.Refine.{refine};
 ghost use Rattle.c_views.specs.Views.{viewOf};
 ghost use Rattle.c_answers.specs.Answers.{Written};
-ghost use Rattle.c_refine.specs.Calls.{lentRequest, WrittenMarked};
+ghost use Rattle.c_requests.specs.Requests.{lentRequest};
+ghost use Rattle.c_marking.specs.Calls.{WrittenMarked};
 
 // ---- on a photograph as it is
 
@@ -44,7 +45,7 @@ pub extern "C" fn trufolmesca_refine_corners(
     )
 }
 
-// A label's corners on a photograph as it is, marked: `c_refine::refine_corners_marking` under its name for C.
+// A label's corners on a photograph as it is, marked: `c_marking::refine_corners_marking` under its name for C.
 #[no_mangle]
 pub extern "C" fn trufolmesca_refine_corners_marking(
     bytes: &[u8],
@@ -67,7 +68,7 @@ pub extern "C" fn trufolmesca_refine_corners_marking(
         (now (places .entry)) (now (places .exit)) (now (counts .entry)) (now (counts .exit))
         (now (sheet .entry)) (now (sheet .exit)) (now (copy .entry)) (now (copy .exit)) ⌝ }
 {
-    c_refine::refine_corners_marking(
+    c_marking::refine_corners_marking(
         bytes,
         width,
         height,
@@ -127,7 +128,7 @@ pub extern "C" fn trufolmesca_refine_corners_mapped(
     )
 }
 
-// A label's corners through a camera, marked: `c_refine::refine_corners_mapped_marking` under its name for C.
+// A label's corners through a camera, marked: `c_marking::refine_corners_mapped_marking` under its name for C.
 #[no_mangle]
 pub extern "C" fn trufolmesca_refine_corners_mapped_marking(
     bytes: &[u8],
@@ -152,7 +153,7 @@ pub extern "C" fn trufolmesca_refine_corners_mapped_marking(
         (now (places .entry)) (now (places .exit)) (now (counts .entry)) (now (counts .exit))
         (now (sheet .entry)) (now (sheet .exit)) (now (copy .entry)) (now (copy .exit)) ⌝ }
 {
-    c_refine::refine_corners_mapped_marking(
+    c_marking::refine_corners_mapped_marking(
         bytes,
         width,
         height,

@@ -14,7 +14,8 @@ use Rattle.pixel.specs.declared.WorkingPixel.{WorkingPixel}
 use Rattle.pixel.proofs.Values.{Fits, source-fits}
 use Rattle.sample_tree.proofs.Always.{always-value}
 use Rattle.grid.proofs.Counts.{probeLimit}
-use Rattle.rounds.proofs.Answers.{Sound, refused-sound, rounds-sound}
+use Rattle.round.proofs.Answers.{Sound, refused-sound}
+use Rattle.rounds.proofs.Answers.{rounds-sound}
 use Rattle.request.specs.declared.Request.{Request}
 use Rattle.request.specs.Requests.{Photograph, cells, entry, sceneOf, shown, sourceCorners}
 use Rattle.refine.specs.Refine.{planOf, refinement, result, refine}

@@ -10,7 +10,7 @@ use edge::Task;
 use footprint::Scene;
 use probe::Plan;
 use request::Request;
-use rounds::RoundResult;
+use round::RoundResult;
 use sample_tree::Meter;
 
 // A label's corners, refined on the photograph as it is, whatever camera is asked for. Refused by 1 to 6, then by

@@ -1,5 +1,4 @@
 -- What belongs to no one function of `rounds`.
-pub mod EdgeByEdge
 pub mod RoundByRound
 pub mod Answers
 -- the definitions opened together

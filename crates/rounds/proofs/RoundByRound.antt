@@ -1,5 +1,5 @@
--- A round, and the rounds one after another, as steps of the tree that is left: a round ran, and then it ends the rounds, by a weak answer or by the
--- number of an edge, or the next one follows. Assumes nothing.
+-- The rounds one after another, as steps of the tree that is left: a round ran, and then it ends the rounds, by a weak answer or by the number of an
+-- edge, or the next one follows. Assumes nothing.
 use mathlib.Core.Path.{_≡_, refl, sym, _∙_, subst}
 use Prim.Native.Nat.{ℕ, suc, _+_, _-_, _<_, _≤_}
 use native.Mathlib.Omega.{arith}
@@ -8,35 +8,16 @@ use mathlib.Core.List.{List}
 use lib.Dec.{eqb}
 use borrow.Author.Tests.{eq-eqb, ne-eqb}
 use Rattle.prelude.specs.Prelude.{if_then_else_}
-use Rattle.number.specs.Numbers as number
 use Rattle.pixel.specs.declared.SourcePixel.{SourcePixel}
-use Rattle.homography.specs.declared.PerspectiveTransform.{PerspectiveTransform}
-use Rattle.quad.specs.declared.Mapped.{Mapped}
-use Rattle.quad.specs.declared.Mapped.the-variants.{By, NoMap}
-use Rattle.quad.specs.Quad.{squareToQuad}
 use Rattle.sample_tree.specs.SampleTree.{SampleTree, done}
 use Rattle.sample_tree.specs.Run.{Sampler, Runs}
 use Rattle.sample_tree.proofs.Steps.{Leads, start, then as and-then, called, end, ended}
 use Rattle.probe.specs.declared.Plan.{Plan}
-use Rattle.edges.specs.declared.Edges.{Edges}
-use Rattle.edges.specs.Edges.{noEdges}
 use Rattle.corners.specs.declared.Answer.{Answer}
-use Rattle.corners.specs.Corners.{refused, roundEnd}
-use Rattle.rounds.specs.Rounds.{edgesFrom, mappedRound, round, isWeak, remainingRounds, rounds}
+use Rattle.round.specs.Round.{round}
+use Rattle.rounds.specs.Rounds.{isWeak, remainingRounds, rounds}
 
 module _ {S : Type 0} (ask : Sampler S) (plan : Plan) (ms : List ℕ) where
-  -- ---- a round
-
-  module _ (q : List SourcePixel) {d : Mapped} (map : d ≡ squareToQuad q) where
-    pub no-map : {a : Answer} (t : S) → d ≡ NoMap → a ≡ refused number.quad → Runs ask (round plan ms q) a t t
-    unfolding round mappedRound
-    no-map t h r = rw (r, sym map, h) (end ask (start ask (done (refused number.quad)) t))
-
-    pub edges-ran : {m : PerspectiveTransform} {es : Edges} {a : Answer} {t t′ : S} → d ≡ By m → Runs ask (edgesFrom plan ms m q 4 0 noEdges) es t t′
-        → a ≡ roundEnd q es → Runs ask (round plan ms q) a t t′
-    unfolding round mappedRound
-    edges-ran {m} h ran r = rw (r, sym map, h) (end ask (called ask (edgesFrom plan ms m q 4 0 noEdges) (λ es. done (roundEnd q es)) ran))
-
   -- ---- the rounds after the first
 
   module _ (first : Answer) where

@@ -27,6 +27,7 @@ use Rattle.probe.proofs.Opened as Probe
 use Rattle.edge.proofs.Opened as Edge
 use Rattle.edges.proofs.Opened as Edges
 use Rattle.corners.proofs.Opened as Corners
+use Rattle.round.proofs.Opened as Round
 use Rattle.rounds.proofs.Opened as Rounds
 use Rattle.request.proofs.Opened as Requests
 use Rattle.refine.proofs.Opened as Refine
@@ -189,5 +190,5 @@ grey-photograph = record { bytes = replicate 16 128; stride = 4 }
 pub grey-is-thin : T (eqb (refine grey (1 ∷ 1 ∷ 1 ∷ 1 ∷ []) grey-photograph .number) 9)
 unfolding grey grey-photograph at
     Ieee.opened Root.opened Pixel.opened Photograph.opened Footprint.opened Sampling.opened SampleTree.opened Homography.opened Quad.opened Line.opened Fit.opened
-    Peak.opened Profile.opened Grids.opened Probe.opened Edge.opened Edges.opened Corners.opened Rounds.opened Requests.opened Refine.opened
+    Peak.opened Profile.opened Grids.opened Probe.opened Edge.opened Edges.opened Corners.opened Round.opened Rounds.opened Requests.opened Refine.opened
 grey-is-thin = tt

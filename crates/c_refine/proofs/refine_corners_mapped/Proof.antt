@@ -1,6 +1,6 @@
 -- `refine_corners_mapped` meets its contract: it writes what the refinement answers. Assumes nothing.
 use borrow.Author.Needs.{needs}
-use Rattle.c_refine.proofs.Written.{written-as}
+use Rattle.c_answers.proofs.Written.{written-as}
 use Rattle.c_refine.proofs.refine_corners_mapped.Statement.{statement}
 use Rattle.c_refine.proofs.refine_corners_mapped.Tie as tie
 

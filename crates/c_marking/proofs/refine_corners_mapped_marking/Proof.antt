@@ -1,10 +1,10 @@
 -- `refine_corners_mapped_marking` meets its contract: it writes what the marking call answers, which leaves sheet and copy. Assumes nothing.
 use borrow.Author.Needs.{needs}
-use Rattle.c_refine.proofs.Written.{marked-as}
-use Rattle.c_refine.proofs.refine_corners_mapped_marking.Statement.{
+use Rattle.c_marking.proofs.Marked.{marked-as}
+use Rattle.c_marking.proofs.refine_corners_mapped_marking.Statement.{
   statement,
 }
-use Rattle.c_refine.proofs.refine_corners_mapped_marking.Tie as tie
+use Rattle.c_marking.proofs.refine_corners_mapped_marking.Tie as tie
 
 view-of-requires : tie.Need-view-of-requires
 view-of-requires c κs = search needs

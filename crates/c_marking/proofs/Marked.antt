@@ -1,4 +1,4 @@
--- What is written of an answer, carried over to an equal answer or request. Assumes nothing.
+-- What a marking call leaves and writes, carried over to an equal request. Assumes nothing.
 use mathlib.Core.Path.{_≡_, subst}
 use Prim.Native.Nat.{ℕ}
 use mathlib.Core.List.{List}
@@ -8,11 +8,8 @@ use Rattle.request.specs.declared.Request.{Request}
 use Rattle.request.specs.Requests.{Photograph}
 use Rattle.marking.specs.Marking.{Marks}
 use Rattle.c_answers.specs.Answers.{Written}
-use Rattle.c_refine.specs.Calls.{WrittenMarked}
-
--- what is written of an answer is written of its equal
-pub written-as : {a b : Answer} {n : ℕ} {ps ps′ : List Float} {ns ns′ : List ℕ} → a ≡ b → Written a n ps ps′ ns ns′ → Written b n ps ps′ ns ns′
-written-as {n = n} {ps = ps} {ps′ = ps′} {ns = ns} {ns′ = ns′} e w = subst (λ (x : Answer). Written x n ps ps′ ns ns′) e w
+use Rattle.c_answers.proofs.Written.{written-as}
+use Rattle.c_marking.specs.Calls.{WrittenMarked}
 
 -- what a marking call leaves, with its answer written, is what is promised of an equal request
 pub marked-as : {q r : Request} {ms : List ℕ} {f : Photograph} {a : Answer} {n : ℕ} {ps ps′ : List Float} {ns ns′ s s′ c c′ : List ℕ}

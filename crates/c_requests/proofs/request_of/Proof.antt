@@ -1,7 +1,7 @@
 -- `request_of` meets its contract: the definition's fields, two of them made by calls. Assumes nothing.
 use borrow.Author.Needs.{needs}
-use Rattle.c_refine.proofs.request_of.Statement.{statement}
-use Rattle.c_refine.proofs.request_of.Tie as tie
+use Rattle.c_requests.proofs.request_of.Statement.{statement}
+use Rattle.c_requests.proofs.request_of.Tie as tie
 
 working-of-requires : tie.Need-working-of-requires
 working-of-requires c κs = search needs

@@ -5,9 +5,9 @@ use borrow.Author.Needs.{needs}
 use Rattle.photograph.specs.Photographs.{photo}
 use Rattle.sample_tree.specs.Run.{state, sampler}
 use Rattle.sample_tree.proofs.Meaning.{sheet-long, copy-long}
-use Rattle.rounds.proofs.EdgeByEdge.{Left, none-yet, next-edge, edge-stops, all-fitted}
-use Rattle.rounds.proofs.fit_edges.Statement.{statement}
-use Rattle.rounds.proofs.fit_edges.Tie as tie
+use Rattle.round.proofs.EdgeByEdge.{Left, none-yet, next-edge, edge-stops, all-fitted}
+use Rattle.round.proofs.fit_edges.Statement.{statement}
+use Rattle.round.proofs.fit_edges.Tie as tie
 
 abbrev Inv-loop : tie.InvT-loop
 Inv-loop task bytes modules sheet₀ copy₀ map q edges₀ meter₀ e₀ sheet copy edges meter e =

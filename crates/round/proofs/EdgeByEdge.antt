@@ -20,7 +20,7 @@ use Rattle.probe.specs.declared.Side.{Side}
 use Rattle.edge.specs.Edge.{edge}
 use Rattle.edges.specs.declared.Edges.{Edges}
 use Rattle.edges.specs.Edges.{noEdges, withEdge}
-use Rattle.rounds.specs.Rounds.{unlessRefused, edgesFrom, sideOf}
+use Rattle.round.specs.Round.{unlessRefused, edgesFrom, sideOf}
 
 module _ {S : Type 0} (ask : Sampler S) (plan : Plan) (ms : List ℕ) (m : PerspectiveTransform) (q : List SourcePixel) where
   abbrev from : ℕ → ℕ → Edges → SampleTree Edges

@@ -1,8 +1,8 @@
 -- `refine_corners_marking` meets its contract: it writes what the marking call answers, which leaves sheet and copy. Assumes nothing.
 use borrow.Author.Needs.{needs}
-use Rattle.c_refine.proofs.Written.{marked-as}
-use Rattle.c_refine.proofs.refine_corners_marking.Statement.{statement}
-use Rattle.c_refine.proofs.refine_corners_marking.Tie as tie
+use Rattle.c_marking.proofs.Marked.{marked-as}
+use Rattle.c_marking.proofs.refine_corners_marking.Statement.{statement}
+use Rattle.c_marking.proofs.refine_corners_marking.Tie as tie
 
 request-of-requires : tie.Need-request-of-requires
 request-of-requires c κs = search needs

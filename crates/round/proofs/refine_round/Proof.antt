@@ -1,8 +1,8 @@
 -- `refine_round` meets its contract: no map ends it, and else its edges ran. Assumes nothing.
-use Rattle.rounds.proofs.RoundByRound.{no-map, edges-ran}
+use Rattle.round.proofs.Mapped.{no-map, edges-ran}
 use borrow.Author.Needs.{needs}
-use Rattle.rounds.proofs.refine_round.Statement.{statement}
-use Rattle.rounds.proofs.refine_round.Tie as tie
+use Rattle.round.proofs.refine_round.Statement.{statement}
+use Rattle.round.proofs.refine_round.Tie as tie
 
 quad-map-requires : tie.Need-quad-map-requires
 quad-map-requires c κs = search needs

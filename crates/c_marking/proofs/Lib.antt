@@ -1,0 +1,2 @@
+-- What the proofs of `c_marking` cite.
+pub mod Marked

@@ -1,0 +1,2 @@
+-- What the contracts of `c_marking` cite.
+pub mod Calls

@@ -1,0 +1,65 @@
+// The marking calls for C and Rust, each over the lists and buffers that it is lent: `export` hands every one on as it is.
+// Sheet and copy are lent width × height bytes or more, in rows of width bytes.
+ghost use Rattle.footprint.specs.declared.View.the-variants.{Plain};
+ghost use Rattle.request.specs.Requests.{photograph};
+ghost use Rattle.c_views.specs.Views.{viewOf};
+ghost use Rattle.c_requests.specs.Requests.{lentRequest};
+ghost use Rattle.c_marking.specs.Calls.{WrittenMarked};
+use footprint::View;
+
+// A label's corners on a photograph as it is, marked: `marking::refine_corners_marking` over lists.
+pub fn refine_corners_marking(
+    bytes: &[u8],
+    width: u32,
+    height: u32,
+    stride: u32,
+    modules: &[u8],
+    dim: u32,
+    sx: f64,
+    sy: f64,
+    corners: &[f64],
+    inverted: bool,
+    places: &mut [f64],
+    counts: &mut [u32],
+    sheet: &mut [u8],
+    copy: &mut [u8],
+) -> u32
+    ensures { λ r. ⌜ WrittenMarked (lentRequest width height dim sx sy (now (corners .entry)) inverted Plain)
+        (now (modules .entry)) (photograph (now (bytes .entry)) stride) r
+        (now (places .entry)) (now (places .exit)) (now (counts .entry)) (now (counts .exit))
+        (now (sheet .entry)) (now (sheet .exit)) (now (copy .entry)) (now (copy .exit)) ⌝ }
+{
+    let request = c_requests::request_of(width, height, dim, sx, sy, corners, inverted, View::Plain);
+    let a = marking::refine_corners_marking(bytes, stride, modules, request, sheet, copy);
+    c_answers::put_answer(a, places, counts)
+}
+
+// A label's corners through a camera, marked: `marking::refine_corners_mapped_marking` over lists.
+pub fn refine_corners_mapped_marking(
+    bytes: &[u8],
+    width: u32,
+    height: u32,
+    stride: u32,
+    modules: &[u8],
+    dim: u32,
+    sx: f64,
+    sy: f64,
+    corners: &[f64],
+    inverted: bool,
+    camera: &[f64],
+    lens: bool,
+    places: &mut [f64],
+    counts: &mut [u32],
+    sheet: &mut [u8],
+    copy: &mut [u8],
+) -> u32
+    ensures { λ r. ⌜ WrittenMarked (lentRequest width height dim sx sy (now (corners .entry)) inverted (viewOf (now (camera .entry)) lens))
+        (now (modules .entry)) (photograph (now (bytes .entry)) stride) r
+        (now (places .entry)) (now (places .exit)) (now (counts .entry)) (now (counts .exit))
+        (now (sheet .entry)) (now (sheet .exit)) (now (copy .entry)) (now (copy .exit)) ⌝ }
+{
+    let view = c_views::view_of(camera, lens);
+    let request = c_requests::request_of(width, height, dim, sx, sy, corners, inverted, view);
+    let a = marking::refine_corners_mapped_marking(bytes, stride, modules, request, sheet, copy);
+    c_answers::put_answer(a, places, counts)
+}

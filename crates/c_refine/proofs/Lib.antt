@@ -1,2 +1,0 @@
--- What the proofs of `c_refine` cite.
-pub mod Written

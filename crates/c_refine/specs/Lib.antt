@@ -1,2 +1,0 @@
--- What the contracts of `c_refine` cite.
-pub mod Calls

@@ -1,0 +1,2 @@
+-- What the contracts of `c_requests` cite.
+pub mod Requests

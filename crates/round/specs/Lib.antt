@@ -1,0 +1,2 @@
+-- What the contracts of `round` cite.
+pub mod Round
