@@ -29,7 +29,16 @@ pub fn refine_corners_marking(
         (now (places .entry)) (now (places .exit)) (now (counts .entry)) (now (counts .exit))
         (now (sheet .entry)) (now (sheet .exit)) (now (copy .entry)) (now (copy .exit)) ⌝ }
 {
-    let request = c_requests::request_of(width, height, dim, sx, sy, corners, inverted, View::Plain);
+    let request = c_requests::request_of(
+        width,
+        height,
+        dim,
+        sx,
+        sy,
+        corners,
+        inverted,
+        View::Plain,
+    );
     let a = marking::refine_corners_marking(bytes, stride, modules, request, sheet, copy);
     c_answers::put_answer(a, places, counts)
 }

@@ -26,7 +26,16 @@ pub fn refine_corners(
         (now (modules .entry)) (photograph (now (bytes .entry)) stride)) r
         (now (places .entry)) (now (places .exit)) (now (counts .entry)) (now (counts .exit)) ⌝ }
 {
-    let request = c_requests::request_of(width, height, dim, sx, sy, corners, inverted, View::Plain);
+    let request = c_requests::request_of(
+        width,
+        height,
+        dim,
+        sx,
+        sy,
+        corners,
+        inverted,
+        View::Plain,
+    );
     let a = refine::refine_corners(bytes, stride, modules, request);
     c_answers::put_answer(a, places, counts)
 }
