@@ -6,7 +6,7 @@ ghost use Rattle.pixel.specs.Pixels.{source};
 ghost use Rattle.sampling.specs.Sampling.{sampleBilinear};
 ghost use Rattle.footprint.specs.declared.View.the-variants.{Plain};
 ghost use Rattle.camera.specs.Camera.{cameraAnswer};
-ghost use Rattle.profile.specs.Profile.{localizeEdgePoint};
+ghost use Rattle.edge_point.specs.EdgePoint.{localizeEdgePoint};
 ghost use Rattle.c_views.specs.Views.{cameraOf, viewOf, borderOf};
 ghost use Rattle.c_buffers.specs.Buffers.{withPlace, withPoint};
 ghost use Rattle.c_samples.specs.Samples.{lentScene, lentRay};
@@ -91,7 +91,7 @@ pub fn localize_edge_point(
         inverted,
         inward_differs,
     };
-    let located = profile::localize_edge_point(bytes, stride, scene, ray);
+    let located = edge_point::localize_edge_point(bytes, stride, scene, ray);
     c_buffers::put_point(point, located.point);
     located.number
 }
@@ -135,7 +135,7 @@ pub fn localize_edge_point_mapped(
         inverted,
         inward_differs,
     };
-    let seen = profile::localize_edge_point(bytes, stride, scene, ray);
+    let seen = edge_point::localize_edge_point(bytes, stride, scene, ray);
     c_buffers::put_point(point, seen.point);
     seen.number
 }

@@ -11,7 +11,7 @@ ghost use Rattle.homography.specs.Homography.{mapPoint, scaled, inverse, compos
 ghost use Rattle.quad.specs.Quad.{squareToQuad, quadToQuad, mapAnswer};
 ghost use Rattle.line.specs.Line.{crossing, crossAnswer};
 ghost use Rattle.line_fit.specs.LineFit.{fitLine, lineAnswer};
-ghost use Rattle.profile.specs.Profile.{localizeEdgePoint};
+ghost use Rattle.edge_point.specs.EdgePoint.{localizeEdgePoint};
 ghost use Rattle.c_lists.specs.Lent.{quadOf, mapOf, lineOf};
 ghost use Rattle.c_views.specs.Views.{cameraOf, viewOf, borderOf};
 ghost use Rattle.c_buffers.specs.Buffers.{withPlace, withPoint, withLine, withMap};

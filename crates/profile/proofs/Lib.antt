@@ -2,6 +2,5 @@
 pub mod SampleProfile
 pub mod Passes
 pub mod Bounds
-pub mod Answers
 -- the definitions opened together
 pub mod Opened

@@ -1,35 +1,24 @@
--- refine.rs, one edge point: the profile of seven samples and a pass (244 to 332), three passes (377
--- to 394), and the call's answer. Definitions only, to be believed; the peak of a profile, and where
--- three passes tend, are in `peak`.
+-- refine.rs, one edge point: the profile of seven samples and a pass (244 to 332), and three passes
+-- (377 to 394). Definitions only, to be believed; the peak of a profile, and where three passes
+-- tend, are in `peak`.
 use Prim.Native.Nat.{ℕ, zero, suc}
-use mathlib.Core.Bool.{not}
 use mathlib.Core.List.{List, [], _∷_, _++_}
 use mathlib.Core.Option.{Option, none, some}
-use lib.Dec.{eqb}
-use lib.ListN.{length}
 use lib.Ieee.{Float}
-use Rattle.prelude.specs.Checks.{check, first}
-use Rattle.prelude.specs.Prelude.{if_then_else_}
-use Rattle.number.specs.Numbers as number
 use Rattle.ieee.specs.Floats.{_⊕_, _⊖_, _⊗_, float, f0, f3}
-use Rattle.consts.specs.Consts.{defaults}
 use Rattle.consts.specs.declared.Settings.{Settings}
 use Rattle.pixel.specs.Pixels.{source, edgePoint}
 use Rattle.pixel.specs.declared.SourcePixel.{SourcePixel}
 use Rattle.pixel.specs.declared.Direction.{Direction}
 use Rattle.pixel.specs.declared.EdgePoint.{EdgePoint}
-use Rattle.photograph.specs.Photographs.{photo, photographChecks}
-use Rattle.footprint.specs.Footprints.{goodView}
 use Rattle.sampling.specs.declared.Sampled.the-variants.{Luma, Outside}
-use Rattle.footprint.specs.declared.Scene.{Scene}
-use Rattle.sample_tree.specs.SampleTree.{SampleTree, done, sample, value, _>>=_ as _>>=ₗ_}
+use Rattle.sample_tree.specs.SampleTree.{SampleTree, done, sample, _>>=_ as _>>=ₗ_}
 use Rattle.peak.specs.Peak.{peak}
 use Rattle.peak.specs.Aitken.{projection, aitken}
 use Rattle.peak.specs.declared.Peaked.{Peaked}
 use Rattle.peak.specs.declared.Peaked.the-variants.{Peak, NoPeak}
 use Rattle.peak.specs.declared.Located.{Located}
 use Rattle.peak.specs.declared.Located.the-variants.{Found, NoEdge}
-use Rattle.profile.specs.declared.PointAnswer.{PointAnswer}
 use Rattle.profile.specs.declared.Ray.{Ray}
 
 -- ---- the profile
@@ -82,23 +71,3 @@ passes s y (suc n) p xs = do
 
 unfoldable pub localize : Settings → Ray → SampleTree Located
 localize s y = passes s y 3 (edgePoint (y .coarse) f0) []
-
--- ---- what an answer says: document 01's number, and the values
-
-abbrev pub noPoint : EdgePoint
-noPoint = edgePoint (source f0 f0) f0
-
-unfoldable pub pointAnswer : Located → PointAnswer
-pointAnswer (Found p) = record { number = number.answer; point = p }
-pointAnswer NoEdge = record { number = number.profile; point = noPoint }
-
--- checks 1, 2 and 6
-unfoldable pub viewNumber : List ℕ → ℕ → Scene → ℕ
-viewNumber bytes stride e = first (photographChecks (e .width) (e .height) stride (length bytes) ++ check number.lens (goodView (e .view)) ∷ [])
-
--- the leaf call: 1, 2, 6, then 19
-unfoldable pub localizeEdgePoint : List ℕ → ℕ → Scene → Ray → PointAnswer
-localizeEdgePoint bytes stride e y =
-    let n = viewNumber bytes stride e in
-    if not (eqb n number.answer) then record { number = n; point = noPoint } else
-    pointAnswer (value e (photo bytes stride) (localize defaults y))

@@ -22,6 +22,7 @@ use Rattle.line.proofs.Opened as Line
 use Rattle.fit.proofs.Opened as Fit
 use Rattle.peak.proofs.Opened as Peak
 use Rattle.profile.proofs.Opened as Profile
+use Rattle.edge_point.proofs.Opened as EdgePoint
 use Rattle.grid.proofs.Opened as Grids
 use Rattle.probe.proofs.Opened as Probe
 use Rattle.edge.proofs.Opened as Edge
@@ -48,8 +49,9 @@ use Rattle.footprint.specs.declared.View.the-variants.{Plain}
 use Rattle.sampling.specs.Sampling.{sampleBilinear}
 use Rattle.peak.specs.Aitken.{aitken}
 use Rattle.profile.specs.declared.Ray.{Ray}
-use Rattle.profile.specs.declared.PointAnswer.{PointAnswer}
-use Rattle.profile.specs.Profile.{passed, pointAnswer}
+use Rattle.profile.specs.Profile.{passed}
+use Rattle.edge_point.specs.declared.PointAnswer.{PointAnswer}
+use Rattle.edge_point.specs.EdgePoint.{pointAnswer}
 use Rattle.grid.specs.Grids.{Grid}
 use Rattle.grid.specs.Probes.{probesOf}
 use Rattle.request.specs.declared.Request.{Request}
@@ -163,7 +165,7 @@ right (c ∷ cs) = eqb (outcome (c .0) .number) (c .1 .number) && sameValues (ou
 
 pub worked : T (right cases)
 unfolding right sameValues cases outcome only rightwards ofPoint ofSample ofMap ofCrossing allDark quarters toBits
-    Ieee.opened Root.opened Photograph.opened Footprint.opened Sampling.opened Homography.opened Quad.opened Line.opened Peak.opened Profile.opened Grids.opened
+    Ieee.opened Root.opened Photograph.opened Footprint.opened Sampling.opened Homography.opened Quad.opened Line.opened Peak.opened Profile.opened EdgePoint.opened Grids.opened
 worked = tt
 
 -- ---- the grey photograph

@@ -1,9 +1,9 @@
 -- `view_number` meets its contract: the tests of the code are those of the definition, in the same order. Assumes nothing.
 use Rattle.prelude.proofs.Tests.{failed, passed}
-use Rattle.profile.proofs.Answers.{photograph-refused, camera-refused, none-refused}
+use Rattle.edge_point.proofs.Answers.{photograph-refused, camera-refused, none-refused}
 use borrow.Author.Needs.{needs}
-use Rattle.profile.proofs.view_number.Statement.{statement}
-use Rattle.profile.proofs.view_number.Tie as tie
+use Rattle.edge_point.proofs.view_number.Statement.{statement}
+use Rattle.edge_point.proofs.view_number.Tie as tie
 
 photograph-number-requires : tie.Need-photograph-number-requires
 photograph-number-requires c κs = search needs

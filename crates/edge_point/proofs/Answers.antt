@@ -16,8 +16,9 @@ use Rattle.footprint.specs.Footprints.{goodView}
 use Rattle.footprint.specs.declared.Scene.{Scene}
 use Rattle.sample_tree.specs.SampleTree.{value}
 use Rattle.peak.specs.declared.Located.{Located}
 use Rattle.profile.specs.declared.Ray.{Ray}
-use Rattle.profile.specs.Profile.{localize, noPoint, pointAnswer, viewNumber, localizeEdgePoint}
+use Rattle.profile.specs.Profile.{localize}
+use Rattle.edge_point.specs.EdgePoint.{noPoint, pointAnswer, viewNumber, localizeEdgePoint}
 
 -- ---- the photograph and the camera
 

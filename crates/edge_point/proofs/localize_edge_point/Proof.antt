@@ -1,11 +1,11 @@
 -- `localize_edge_point` meets its contract: the number of the view, and then a case for each end of `localize`. Assumes nothing.
-use Rattle.profile.proofs.Answers.{refused, ended}
-use Rattle.profile.specs.Profile.{pointAnswer}
+use Rattle.edge_point.proofs.Answers.{refused, ended}
+use Rattle.edge_point.specs.EdgePoint.{pointAnswer}
 use Rattle.sample_tree.proofs.Meaning.{ran-value}
 use mathlib.Core.Path.{_∙_}
 use borrow.Author.Needs.{needs}
-use Rattle.profile.proofs.localize_edge_point.Statement.{statement}
-use Rattle.profile.proofs.localize_edge_point.Tie as tie
+use Rattle.edge_point.proofs.localize_edge_point.Statement.{statement}
+use Rattle.edge_point.proofs.localize_edge_point.Tie as tie
 
 view-number-requires : tie.Need-view-number-requires
 view-number-requires c κs = search needs

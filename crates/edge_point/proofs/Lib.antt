@@ -1,0 +1,4 @@
+-- What belongs to no one function of `edge_point`.
+pub mod Answers
+-- the definitions opened together
+pub mod Opened

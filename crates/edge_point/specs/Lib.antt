@@ -1,0 +1,2 @@
+-- What the contracts of `edge_point` cite.
+pub mod EdgePoint
