@@ -5,7 +5,7 @@ use native.Mathlib.Omega.{arith}
 use mathlib.Core.List.{List}
 use Rattle.number.specs.Numbers as number
 use Rattle.prelude.proofs.Branches.{either}
-use Rattle.grid.proofs.Counts.{limit-in-room}
+use Rattle.probes.proofs.Counts.{limit-in-room}
 use Rattle.round.proofs.Answers.{Sound, refused-sound}
 use Rattle.refine.proofs.Answers.{refine-sound}
 use Rattle.job_card.specs.JobCard.{wellFormed}

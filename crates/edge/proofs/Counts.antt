@@ -12,10 +12,10 @@ use Rattle.fit.proofs.Counts.{EdgeCounted, counted, none-counted, fit-counted}
 use Rattle.sample_tree.proofs.Always.{Always, ends, always-bind, always-after, always-weaker}
 use Rattle.peak.specs.declared.Located.{Located}
 use Rattle.peak.specs.declared.Located.the-variants.{Found, NoEdge}
-use Rattle.grid.specs.declared.Probe.{Probe}
+use Rattle.probes.specs.declared.Probe.{Probe}
 use Rattle.grid.specs.Grids.{gridOf}
-use Rattle.grid.specs.Probes.{probesOf}
-use Rattle.grid.proofs.Counts.{probeLimit, few-probes}
+use Rattle.probes.specs.Probes.{probesOf}
+use Rattle.probes.proofs.Counts.{probeLimit, few-probes}
 use Rattle.probe.specs.declared.Plan.{Plan}
 use Rattle.probe.specs.declared.Side.{Side}
 use Rattle.edge.specs.Edge.{probed, plus, points, fitted, edgeLength, edge}

@@ -15,7 +15,7 @@ use Rattle.sample_tree.proofs.Steps.{Leads, start, then, called, end}
 use Rattle.fit.specs.Fit.{fitEdge}
 use Rattle.fit.specs.declared.EdgeFit.{EdgeFit}
 use Rattle.peak.specs.declared.Located.{Located}
-use Rattle.grid.specs.declared.Probe.{Probe}
+use Rattle.probes.specs.declared.Probe.{Probe}
 use Rattle.probe.specs.declared.Plan.{Plan}
 use Rattle.probe.specs.declared.Side.{Side}
 use Rattle.probe.specs.declared.ProbeRay.{ProbeRay}

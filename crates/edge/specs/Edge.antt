@@ -18,9 +18,9 @@ use Rattle.sample_tree.specs.SampleTree.{SampleTree, done, _>>=_}
 use Rattle.peak.specs.declared.Located.{Located}
 use Rattle.peak.specs.declared.Located.the-variants.{Found, NoEdge}
 use Rattle.profile.specs.Profile.{localize}
-use Rattle.grid.specs.declared.Probe.{Probe}
+use Rattle.probes.specs.declared.Probe.{Probe}
 use Rattle.grid.specs.Grids.{gridOf}
-use Rattle.grid.specs.Probes.{probesOf}
+use Rattle.probes.specs.Probes.{probesOf}
 use Rattle.probe.specs.declared.Plan.{Plan}
 use Rattle.probe.specs.declared.Side.{Side}
 use Rattle.probe.specs.declared.ProbeRay.{ProbeRay}

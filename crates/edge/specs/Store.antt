@@ -8,7 +8,7 @@ use lib.Ieee.{Float}
 use Rattle.pixel.specs.declared.EdgePoint.{EdgePoint}
 use Rattle.consts.specs.Consts.{maxEdgePoints}
 use Rattle.fit.specs.Fit.{pointsOf}
-use Rattle.grid.specs.declared.Probes.{Probes}
+use Rattle.probes.specs.declared.Probes.{Probes}
 use Rattle.peak.specs.declared.Located.{Located}
 use Rattle.edge.specs.Edge.{plus}
 

@@ -6,7 +6,7 @@ ghost use lib.ListN.{length};
 ghost use Rattle.consts.specs.Consts.{maxEdgePoints};
 ghost use Rattle.photograph.specs.Photographs.{photo};
 ghost use Rattle.sample_tree.specs.Run.{state, sampler, Runs};
-ghost use Rattle.grid.specs.Probes.{held};
+ghost use Rattle.probes.specs.Probes.{held};
 ghost use Rattle.edge.specs.Edge.{localizeProbe, points, fitted, edgeLength, edge as edgeOf};
 ghost use Rattle.edge.specs.Store.{storedTo, Adds, Room, Holds};
 use consts::MAX_EDGE_POINTS;
@@ -14,12 +14,12 @@ use consts::Settings;
 use fit::EdgeFit;
 use fit::EdgeStat;
 use footprint::Scene;
-use grid::Probes;
 use peak::Located;
 use pixel::SourcePixel;
 use probe::Plan;
 use probe::ProbeRay;
 use probe::Side;
+use probes::Probes;
 use profile::Localized;
 use sample_tree::Meter;
 
@@ -226,7 +226,7 @@ pub fn refine_edge(
             meter,
         };
     }
-    let probes = grid::probes_of(task.plan.settings, modules, task.plan.dim, side.edge);
+    let probes = probes::probes_of(task.plan.settings, modules, task.plan.dim, side.edge);
     let search = Search { task, side, probes };
     let module_px = len / task.plan.dim as f64;
     fit_probes(search, bytes, sheet, copy, meter, module_px)

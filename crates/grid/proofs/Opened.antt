@@ -1,7 +1,6 @@
 -- The definitions of `grid`, opened together: a proof that computes with them unfolds this one name. Assumes nothing.
 use Rattle.grid.specs.Grids.{dark, edgeDark, bits, goodGrid}
-use Rattle.grid.specs.Probes.{nearEnd, candidateAt, moduleCandidates, candidatesFrom, candidates, everyFrom, decimation, decimated, probesOf}
 
 unfoldable pub opened : Unit {0}
-unfolding dark edgeDark bits goodGrid nearEnd candidateAt moduleCandidates candidatesFrom candidates everyFrom decimation decimated probesOf
+unfolding dark edgeDark bits goodGrid
 opened = tt

@@ -6,7 +6,7 @@ use Rattle.ieee.specs.Floats.{_⊕_, _⊖_, _⊗_, _⊘_, float, f0, f1, f½}
 use Rattle.pixel.specs.Pixels.{source, direction}
 use Rattle.pixel.specs.declared.SourcePixel.{SourcePixel}
 use Rattle.homography.specs.Homography.{mapPoint}
-use Rattle.grid.specs.declared.Probe.{Probe}
+use Rattle.probes.specs.declared.Probe.{Probe}
 use Rattle.grid.specs.Grids.{bySide}
 use Rattle.probe.specs.declared.Plan.{Plan}
 use Rattle.probe.specs.declared.Side.{Side}

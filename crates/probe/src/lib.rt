@@ -2,10 +2,10 @@
 ghost use mathlib.Core.Path.{_≡_};
 ghost use Rattle.probe.specs.Probe.{pointOnSide, probeRay};
 use consts::Settings;
-use grid::Probe;
 use homography::PerspectiveTransform;
 use pixel::Direction;
 use pixel::SourcePixel;
+use probes::Probe;
 use profile::Ray;
 
 // What a refinement goes by: the settings, and the label's side in modules and its polarity.

@@ -13,7 +13,7 @@ use Rattle.pixel.specs.Pixels.{toSource}
 use Rattle.pixel.specs.declared.WorkingPixel.{WorkingPixel}
 use Rattle.pixel.proofs.Values.{Fits, source-fits}
 use Rattle.sample_tree.proofs.Always.{always-value}
-use Rattle.grid.proofs.Counts.{probeLimit}
+use Rattle.probes.proofs.Counts.{probeLimit}
 use Rattle.round.proofs.Answers.{Sound, refused-sound}
 use Rattle.rounds.proofs.Answers.{rounds-sound}
 use Rattle.request.specs.declared.Request.{Request}

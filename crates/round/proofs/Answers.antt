@@ -24,7 +24,7 @@ use Rattle.line.proofs.Crossings.{CrossingFits, crossed, parallel, crossing-fit
 use Rattle.fit.specs.declared.EdgeFit.{EdgeFit}
 use Rattle.fit.proofs.Counts.{Counted, none-counted, EdgeCounted, stopped, counted, counted-line}
 use Rattle.sample_tree.proofs.Always.{Always, ends, always-bind}
-use Rattle.grid.proofs.Counts.{probeLimit}
+use Rattle.probes.proofs.Counts.{probeLimit}
 use Rattle.probe.specs.declared.Plan.{Plan}
 use Rattle.edge.proofs.Counts.{edge-counted}
 use Rattle.edges.specs.declared.Edges.{Edges}

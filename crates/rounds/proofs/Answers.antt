@@ -8,7 +8,7 @@ use Rattle.prelude.proofs.Lists.{Four}
 use Rattle.pixel.specs.declared.SourcePixel.{SourcePixel}
 use Rattle.pixel.proofs.Values.{Fits}
 use Rattle.sample_tree.proofs.Always.{Always, ends, always-bind}
-use Rattle.grid.proofs.Counts.{probeLimit}
+use Rattle.probes.proofs.Counts.{probeLimit}
 use Rattle.probe.specs.declared.Plan.{Plan}
 use Rattle.corners.specs.declared.Answer.{Answer}
 use Rattle.round.proofs.Answers.{Sound, round-sound}

@@ -24,6 +24,7 @@ use Rattle.peak.proofs.Opened as Peak
 use Rattle.profile.proofs.Opened as Profile
 use Rattle.edge_point.proofs.Opened as EdgePoint
 use Rattle.grid.proofs.Opened as Grids
+use Rattle.probes.proofs.Opened as Probes
 use Rattle.probe.proofs.Opened as Probe
 use Rattle.edge.proofs.Opened as Edge
 use Rattle.edges.proofs.Opened as Edges
@@ -53,7 +54,7 @@ use Rattle.profile.specs.Profile.{passed}
 use Rattle.edge_point.specs.declared.PointAnswer.{PointAnswer}
 use Rattle.edge_point.specs.EdgePoint.{pointAnswer}
 use Rattle.grid.specs.Grids.{Grid}
-use Rattle.grid.specs.Probes.{probesOf}
+use Rattle.probes.specs.Probes.{probesOf}
 use Rattle.request.specs.declared.Request.{Request}
 use Rattle.request.specs.Requests.{Photograph}
 use Rattle.refine.specs.Refine.{refine}
@@ -166,6 +167,7 @@ right (c ∷ cs) = eqb (outcome (c .0) .number) (c .1 .number) && sameValues (ou
 pub worked : T (right cases)
 unfolding right sameValues cases outcome only rightwards ofPoint ofSample ofMap ofCrossing allDark quarters toBits
     Ieee.opened Root.opened Photograph.opened Footprint.opened Sampling.opened Homography.opened Quad.opened Line.opened Peak.opened Profile.opened EdgePoint.opened Grids.opened
+    Probes.opened
 worked = tt
 
 -- ---- the grey photograph
@@ -192,5 +194,5 @@ grey-photograph = record { bytes = replicate 16 128; stride = 4 }
 pub grey-is-thin : T (eqb (refine grey (1 ∷ 1 ∷ 1 ∷ 1 ∷ []) grey-photograph .number) 9)
 unfolding grey grey-photograph at
     Ieee.opened Root.opened Pixel.opened Photograph.opened Footprint.opened Sampling.opened SampleTree.opened Homography.opened Quad.opened Line.opened Fit.opened
-    Peak.opened Profile.opened Grids.opened Probe.opened Edge.opened Edges.opened Corners.opened Round.opened Rounds.opened Requests.opened Refine.opened
+    Peak.opened Profile.opened Grids.opened Probes.opened Probe.opened Edge.opened Edges.opened Corners.opened Round.opened Rounds.opened Requests.opened Refine.opened
 grey-is-thin = tt

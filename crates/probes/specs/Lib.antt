@@ -1,0 +1,3 @@
+-- What the contracts of `probes` cite.
+pub mod Probes
+pub mod Places
