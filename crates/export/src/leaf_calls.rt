@@ -1,4 +1,4 @@
-// The leaf calls: each hands on what the one of its name in `c_maps`, `c_lines` or `c_samples` gives.
+// The leaf calls: each hands on what the one of its name in `c_maps`, `c_lines`, `c_samples` or `c_edge_points` gives.
 ghost use mathlib.Core.Path.{_≡_};
 ghost use lib.ListN.{set};
 ghost use lib.Ieee.{binary64};
@@ -15,7 +15,7 @@ ghost use Rattle.edge_point.specs.EdgePoint.{localizeEdgePoint};
 ghost use Rattle.c_lists.specs.Lent.{quadOf, mapOf, lineOf};
 ghost use Rattle.c_views.specs.Views.{cameraOf, viewOf, borderOf};
 ghost use Rattle.c_buffers.specs.Buffers.{withPlace, withPoint, withLine, withMap};
-ghost use Rattle.c_samples.specs.Samples.{lentScene, lentRay};
+ghost use Rattle.c_edge_points.specs.EdgePoints.{lentScene, lentRay};
 
 // ---- sampling.rs
 
@@ -138,7 +138,7 @@ pub extern "C" fn trufolmesca_intersect_lines(a: &[f64], b: &[f64], place: &mut 
 
 // ---- refine.rs, `localize_edge_point`
 
-// An edge point on a photograph as it is: `c_samples::localize_edge_point` under its name for C.
+// An edge point on a photograph as it is: `c_edge_points::localize_edge_point` under its name for C.
 #[no_mangle]
 pub extern "C" fn trufolmesca_localize_edge_point(
     bytes: &[u8],
@@ -160,7 +160,7 @@ pub extern "C" fn trufolmesca_localize_edge_point(
         (lentScene width height Plain)
         (lentRay «coarse_x» «coarse_y» «normal_x» «normal_y» step inverted «inward_differs») .point) (now (point .entry)) ⌝ }
 {
-    c_samples::localize_edge_point(
+    c_edge_points::localize_edge_point(
         bytes,
         width,
         height,
@@ -176,7 +176,7 @@ pub extern "C" fn trufolmesca_localize_edge_point(
     )
 }
 
-// An edge point through a camera: `c_samples::localize_edge_point_mapped` under its name for C.
+// An edge point through a camera: `c_edge_points::localize_edge_point_mapped` under its name for C.
 #[no_mangle]
 pub extern "C" fn trufolmesca_localize_edge_point_mapped(
     bytes: &[u8],
@@ -200,7 +200,7 @@ pub extern "C" fn trufolmesca_localize_edge_point_mapped(
         (lentScene width height (viewOf (now (camera .entry)) lens))
         (lentRay «coarse_x» «coarse_y» «normal_x» «normal_y» step inverted «inward_differs») .point) (now (point .entry)) ⌝ }
 {
-    c_samples::localize_edge_point_mapped(
+    c_edge_points::localize_edge_point_mapped(
         bytes,
         width,
         height,

@@ -1,7 +1,7 @@
--- `c_samples::localize_edge_point_mapped` meets its contract: it hands on what its callees answer. Assumes nothing.
+-- `c_edge_points::localize_edge_point_mapped` meets its contract: it hands on what its callees answer. Assumes nothing.
 use borrow.Author.Needs.{needs}
-use Rattle.c_samples.proofs.localize_edge_point_mapped.Statement.{statement}
-use Rattle.c_samples.proofs.localize_edge_point_mapped.Tie as tie
+use Rattle.c_edge_points.proofs.localize_edge_point_mapped.Statement.{statement}
+use Rattle.c_edge_points.proofs.localize_edge_point_mapped.Tie as tie
 
 view-of-requires : tie.Need-view-of-requires
 view-of-requires c κs = search needs

@@ -1,5 +1,5 @@
--- The calls for C and Rust that sample: what they make of what they are lent. Definitions only, to be
--- believed.
+-- The calls for C and Rust that look for an edge point: what they make of what they are lent.
+-- Definitions only, to be believed.
 use Prim.Native.Nat.{ℕ}
 use mathlib.Core.Bool.{Bool}
 use lib.Ieee.{Float}

@@ -1,7 +1,7 @@
--- `c_samples::localize_edge_point` meets its contract: it hands on what its callees answer. Assumes nothing.
+-- `c_edge_points::localize_edge_point` meets its contract: it hands on what its callees answer. Assumes nothing.
 use borrow.Author.Needs.{needs}
-use Rattle.c_samples.proofs.localize_edge_point.Statement.{statement}
-use Rattle.c_samples.proofs.localize_edge_point.Tie as tie
+use Rattle.c_edge_points.proofs.localize_edge_point.Statement.{statement}
+use Rattle.c_edge_points.proofs.localize_edge_point.Tie as tie
 
 localize-edge-point-requires : tie.Need-localize-edge-point-requires
 localize-edge-point-requires c κs = search needs

@@ -1,0 +1,2 @@
+-- What the contracts of `c_edge_points` cite.
+pub mod EdgePoints

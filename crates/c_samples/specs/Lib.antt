@@ -1,2 +1,0 @@
--- What the contracts of `c_samples` cite.
-pub mod Samples
