@@ -10,8 +10,8 @@ use Rattle.prelude.proofs.Branches.{either}
 use Rattle.pixel.specs.declared.EdgePoint.{EdgePoint}
 use Rattle.fit.proofs.Counts.{EdgeCounted, counted, none-counted, fit-counted}
 use Rattle.sample_tree.proofs.Always.{Always, ends, always-bind, always-after, always-weaker}
-use Rattle.peak.specs.declared.Located.{Located}
-use Rattle.peak.specs.declared.Located.the-variants.{Found, NoEdge}
+use Rattle.aitken.specs.declared.Located.{Located}
+use Rattle.aitken.specs.declared.Located.the-variants.{Found, NoEdge}
 use Rattle.probes.specs.declared.Probe.{Probe}
 use Rattle.grid.specs.Grids.{gridOf}
 use Rattle.probes.specs.Probes.{probesOf}

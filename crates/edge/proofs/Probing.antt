@@ -14,7 +14,7 @@ use Rattle.sample_tree.specs.Run.{Sampler, Runs}
 use Rattle.sample_tree.proofs.Steps.{Leads, start, then, called, end}
 use Rattle.fit.specs.Fit.{fitEdge}
 use Rattle.fit.specs.declared.EdgeFit.{EdgeFit}
-use Rattle.peak.specs.declared.Located.{Located}
+use Rattle.aitken.specs.declared.Located.{Located}
 use Rattle.probes.specs.declared.Probe.{Probe}
 use Rattle.probe.specs.declared.Plan.{Plan}
 use Rattle.probe.specs.declared.Side.{Side}

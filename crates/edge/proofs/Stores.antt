@@ -11,8 +11,8 @@ use Rattle.consts.specs.Consts.{maxEdgePoints}
 use Rattle.pixel.specs.Pixels.{source, edgePoint}
 use Rattle.pixel.specs.declared.EdgePoint.{EdgePoint}
 use Rattle.fit.specs.Fit.{pointsOf}
-use Rattle.peak.specs.declared.Located.{Located}
-use Rattle.peak.specs.declared.Located.the-variants.{Found, NoEdge}
+use Rattle.aitken.specs.declared.Located.{Located}
+use Rattle.aitken.specs.declared.Located.the-variants.{Found, NoEdge}
 use Rattle.edge.specs.Edge.{plus}
 use Rattle.edge.specs.Store.{storedTo, Room, Adds}
 

@@ -15,8 +15,8 @@ use Rattle.fit.specs.declared.EdgeFit.{EdgeFit}
 use Rattle.fit.specs.declared.EdgeFit.the-variants.{TooFewPoints}
 use Rattle.fit.specs.Fit.{stat, fitEdge}
 use Rattle.sample_tree.specs.SampleTree.{SampleTree, done, _>>=_}
-use Rattle.peak.specs.declared.Located.{Located}
-use Rattle.peak.specs.declared.Located.the-variants.{Found, NoEdge}
+use Rattle.aitken.specs.declared.Located.{Located}
+use Rattle.aitken.specs.declared.Located.the-variants.{Found, NoEdge}
 use Rattle.profile.specs.Profile.{localize}
 use Rattle.probes.specs.declared.Probe.{Probe}
 use Rattle.grid.specs.Grids.{gridOf}

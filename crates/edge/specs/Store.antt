@@ -9,7 +9,7 @@ use Rattle.pixel.specs.declared.EdgePoint.{EdgePoint}
 use Rattle.consts.specs.Consts.{maxEdgePoints}
 use Rattle.fit.specs.Fit.{pointsOf}
 use Rattle.probes.specs.declared.Probes.{Probes}
-use Rattle.peak.specs.declared.Located.{Located}
+use Rattle.aitken.specs.declared.Located.{Located}
 use Rattle.edge.specs.Edge.{plus}
 
 abbrev pub storedTo : ℕ → (xs ys ws : List Float) → List EdgePoint

@@ -15,7 +15,7 @@ use Rattle.photograph.specs.Photographs.{photo, photographChecks, photographNum
 use Rattle.footprint.specs.Footprints.{goodView}
 use Rattle.footprint.specs.declared.Scene.{Scene}
 use Rattle.sample_tree.specs.SampleTree.{value}
-use Rattle.peak.specs.declared.Located.{Located}
+use Rattle.aitken.specs.declared.Located.{Located}
 use Rattle.profile.specs.declared.Ray.{Ray}
 use Rattle.profile.specs.Profile.{localize}
 use Rattle.edge_point.specs.EdgePoint.{noPoint, pointAnswer, viewNumber, localizeEdgePoint}

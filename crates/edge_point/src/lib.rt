@@ -1,8 +1,8 @@
 // refine.rs, `localize_edge_point` as a call: checks 1, 2 and 6, then the point, or 19 without one.
 ghost use mathlib.Core.Path.{_≡_};
 ghost use Rattle.edge_point.specs.EdgePoint.{localizeEdgePoint, noPoint, viewNumber};
+use aitken::Located;
 use footprint::Scene;
-use peak::Located;
 use pixel::EdgePoint;
 use pixel::SourcePixel;
 use profile::Ray;

@@ -1,23 +1,17 @@
--- The gradients, the peak and the extrapolation, by the tests on the way: what each test of the code says of the definition. Each law unfolds the
+-- The gradients and the peak, by the tests on the way: what each test of the code says of the definition. Each law unfolds the
 -- definition and puts the tests' results in. Assumes nothing.
 use mathlib.Core.Path.{_≡_, sym, ap, _∙_}
 use Prim.Native.Nat.{ℕ}
 use mathlib.Core.Bool.{Bool, true, false}
 use mathlib.Core.List.{List}
-use lib.ListN.{getD}
-use lib.Ieee.{Float, nan}
+use lib.Ieee.{Float}
 use Rattle.ieee.specs.Parts.{isFinite, magnitude}
-use Rattle.ieee.specs.Floats.{_⊕_, _⊖_, _⊗_, _⊘_, _≺_, float, f0, f1, f2, f3, f½, f1e-6, f1e-9}
-use Rattle.pixel.specs.declared.Direction.{Direction}
-use Rattle.pixel.specs.declared.EdgePoint.{EdgePoint}
+use Rattle.ieee.specs.Floats.{_⊕_, _⊖_, _⊗_, _⊘_, _≺_, float, f0, f1, f2, f3, f½, f1e-9}
 use Rattle.consts.specs.declared.Settings.{Settings}
 use Rattle.peak.specs.declared.Gradients.{Gradients}
 use Rattle.peak.specs.declared.Peaked.{Peaked}
 use Rattle.peak.specs.declared.Peaked.the-variants.{Peak, NoPeak}
-use Rattle.peak.specs.declared.Extrapolated.{Extrapolated}
-use Rattle.peak.specs.declared.Extrapolated.the-variants.{Converged, Shifted, Diverged}
 use Rattle.peak.specs.Peak.{gradient, tailSum, corrected, innerGradients, aboveContrastFloor, peakIndex, vertex, peakAt}
-use Rattle.peak.specs.Aitken.{extrapolate, moved, aitken}
 
 -- ---- gradients
 
@@ -85,37 +79,6 @@ module _ (s : Settings) (inverted : Bool) (g : ℕ → Float) where
   pub nowhere : aboveContrastFloor s inverted (g 3) ≡ false → aboveContrastFloor s inverted (g 2) ≡ false → aboveContrastFloor s inverted (g 4) ≡ false → NoPeak ≡ peakAt g (peakIndex s inverted g)
   unfolding peakIndex peakAt
   nowhere e f h = rw (e, f, h, peakIndex)
-
--- ---- three projections
-
-module _ (step x0 x1 x2 : Float) where
-  abbrev bend : Float
-  bend = x2 ⊖ f2 ⊗ x1 ⊕ x0
-
-  abbrev correction : Float
-  correction = (x2 ⊖ x1) ⊗ (x2 ⊖ x1) ⊘ bend
-
-  pub settled : (magnitude bend ≺ f1e-6) ≡ true → Converged ≡ extrapolate step x0 x1 x2
-  unfolding extrapolate
-  settled e = rw (e, extrapolate)
-
-  pub lost : (magnitude bend ≺ f1e-6) ≡ false → isFinite correction ≡ false → Diverged ≡ extrapolate step x0 x1 x2
-  unfolding extrapolate
-  lost e f = rw (e, f, extrapolate)
-
-  pub lost-far : (magnitude bend ≺ f1e-6) ≡ false → isFinite correction ≡ true → (step ≺ magnitude correction) ≡ true → Diverged ≡ extrapolate step x0 x1 x2
-  unfolding extrapolate
-  lost-far e f g = rw (e, f, g, extrapolate)
-
-  pub drawn : (magnitude bend ≺ f1e-6) ≡ false → isFinite correction ≡ true → (step ≺ magnitude correction) ≡ false
-      → Shifted ((x2 ⊖ correction) ⊖ x2) ≡ extrapolate step x0 x1 x2
-  unfolding extrapolate
-  drawn e f g = rw (e, f, g, extrapolate)
-
-pub aitken-by : (normal : Direction) (step : Float) (p : EdgePoint) (xs : List Float) {z : Extrapolated}
-    → extrapolate step (getD xs 0 nan) (getD xs 1 nan) (getD xs 2 nan) ≡ z → moved normal p z ≡ aitken normal step p xs
-unfolding aitken
-aitken-by normal step p xs e = ap (moved normal p) (sym e)
 
 -- ---- the code's names for what the definitions say
 

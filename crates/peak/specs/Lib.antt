@@ -1,3 +1,2 @@
 -- What the contracts of `peak` cite.
 pub mod Peak
-pub mod Aitken

@@ -17,10 +17,10 @@ use Rattle.sample_tree.proofs.Bounds.{AtMost, taken-most, most-done, most-sampl
 use Rattle.pixel.specs.Pixels.{edgePoint}
 use Rattle.pixel.specs.declared.Direction.{Direction}
 use Rattle.pixel.specs.declared.EdgePoint.{EdgePoint}
-use Rattle.peak.specs.declared.Located.{Located}
-use Rattle.peak.specs.declared.Located.the-variants.{Found, NoEdge}
+use Rattle.aitken.specs.declared.Located.{Located}
+use Rattle.aitken.specs.declared.Located.the-variants.{Found, NoEdge}
 use Rattle.profile.specs.declared.Ray.{Ray}
-use Rattle.peak.specs.Aitken.{projection, aitken}
+use Rattle.aitken.specs.Aitken.{projection, aitken}
 use Rattle.profile.specs.Profile.{offsetAlong, sampleProfile, profile, pass, passed, andThen, _>>=_, passes, localize}
 
 module _ (normal : Direction) (step : Float) where

@@ -18,11 +18,11 @@ use Rattle.sample_tree.proofs.Steps.{Leads, start, then, called, end}
 use Rattle.pixel.specs.declared.EdgePoint.{EdgePoint}
 use Rattle.peak.specs.declared.Peaked.{Peaked}
 use Rattle.peak.specs.declared.Peaked.the-variants.{Peak, NoPeak}
-use Rattle.peak.specs.declared.Located.{Located}
-use Rattle.peak.specs.declared.Located.the-variants.{NoEdge}
+use Rattle.aitken.specs.declared.Located.{Located}
+use Rattle.aitken.specs.declared.Located.the-variants.{NoEdge}
 use Rattle.profile.specs.declared.Ray.{Ray}
 use Rattle.peak.specs.Peak.{peak}
-use Rattle.peak.specs.Aitken.{projection, aitken}
+use Rattle.aitken.specs.Aitken.{projection, aitken}
 use Rattle.profile.specs.Profile.{offsetAlong, profile, found, passed, pass, andThen, _>>=_, passes}
 
 module _ {S : Type 0} (ask : Sampler S) (settings : Settings) (ray : Ray) (first : EdgePoint) where

@@ -14,11 +14,11 @@ use Rattle.pixel.specs.declared.EdgePoint.{EdgePoint}
 use Rattle.sampling.specs.declared.Sampled.the-variants.{Luma, Outside}
 use Rattle.sample_tree.specs.SampleTree.{SampleTree, done, sample, _>>=_ as _>>=ₗ_}
 use Rattle.peak.specs.Peak.{peak}
-use Rattle.peak.specs.Aitken.{projection, aitken}
 use Rattle.peak.specs.declared.Peaked.{Peaked}
 use Rattle.peak.specs.declared.Peaked.the-variants.{Peak, NoPeak}
-use Rattle.peak.specs.declared.Located.{Located}
-use Rattle.peak.specs.declared.Located.the-variants.{Found, NoEdge}
+use Rattle.aitken.specs.Aitken.{projection, aitken}
+use Rattle.aitken.specs.declared.Located.{Located}
+use Rattle.aitken.specs.declared.Located.the-variants.{Found, NoEdge}
 use Rattle.profile.specs.declared.Ray.{Ray}
 
 -- ---- the profile

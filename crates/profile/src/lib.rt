@@ -4,9 +4,9 @@ ghost use mathlib.Core.Path.{_≡_};
 ghost use Rattle.photograph.specs.Photographs.{photo};
 ghost use Rattle.sample_tree.specs.Run.{state, sampler, Runs};
 ghost use Rattle.profile.specs.Profile.{localize as localized, offsetAlong};
+use aitken::Located;
 use consts::Settings;
 use footprint::Scene;
-use peak::Located;
 use peak::Peaked;
 use pixel::Direction;
 use pixel::EdgePoint;
@@ -99,7 +99,7 @@ pub fn localize(
             pos: offset_along(normal, step, center, offset),
             weight,
         };
-        xs[pass] = peak::projection(normal, point.pos);
+        xs[pass] = aitken::projection(normal, point.pos);
         pass += 1;
     }
     if pass < PASSES {
@@ -109,7 +109,7 @@ pub fn localize(
         };
     }
     Localized {
-        located: peak::aitken(normal, step, point, xs),
+        located: aitken::aitken(normal, step, point, xs),
         meter,
     }
 }

@@ -21,6 +21,7 @@ use Rattle.quad.proofs.Opened as Quad
 use Rattle.line.proofs.Opened as Line
 use Rattle.fit.proofs.Opened as Fit
 use Rattle.peak.proofs.Opened as Peak
+use Rattle.aitken.proofs.Opened as Aitken
 use Rattle.profile.proofs.Opened as Profile
 use Rattle.edge_point.proofs.Opened as EdgePoint
 use Rattle.grid.proofs.Opened as Grids
@@ -48,7 +49,7 @@ use Rattle.footprint.specs.declared.BorderMode.the-variants.{Reject}
 use Rattle.sampling.specs.declared.LumaAnswer.{LumaAnswer}
 use Rattle.footprint.specs.declared.View.the-variants.{Plain}
 use Rattle.sampling.specs.Sampling.{sampleBilinear}
-use Rattle.peak.specs.Aitken.{aitken}
+use Rattle.aitken.specs.Aitken.{aitken}
 use Rattle.profile.specs.declared.Ray.{Ray}
 use Rattle.profile.specs.Profile.{passed}
 use Rattle.edge_point.specs.declared.PointAnswer.{PointAnswer}
@@ -166,7 +167,7 @@ right (c ∷ cs) = eqb (outcome (c .0) .number) (c .1 .number) && sameValues (ou
 
 pub worked : T (right cases)
 unfolding right sameValues cases outcome only rightwards ofPoint ofSample ofMap ofCrossing allDark quarters toBits
-    Ieee.opened Root.opened Photograph.opened Footprint.opened Sampling.opened Homography.opened Quad.opened Line.opened Peak.opened Profile.opened EdgePoint.opened Grids.opened
+    Ieee.opened Root.opened Photograph.opened Footprint.opened Sampling.opened Homography.opened Quad.opened Line.opened Peak.opened Aitken.opened Profile.opened EdgePoint.opened Grids.opened
     Probes.opened
 worked = tt
 
@@ -194,5 +195,5 @@ grey-photograph = record { bytes = replicate 16 128; stride = 4 }
 pub grey-is-thin : T (eqb (refine grey (1 ∷ 1 ∷ 1 ∷ 1 ∷ []) grey-photograph .number) 9)
 unfolding grey grey-photograph at
     Ieee.opened Root.opened Pixel.opened Photograph.opened Footprint.opened Sampling.opened SampleTree.opened Homography.opened Quad.opened Line.opened Fit.opened
-    Peak.opened Profile.opened Grids.opened Probes.opened Probe.opened Edge.opened Edges.opened Corners.opened Round.opened Rounds.opened Requests.opened Refine.opened
+    Peak.opened Aitken.opened Profile.opened Grids.opened Probes.opened Probe.opened Edge.opened Edges.opened Corners.opened Round.opened Rounds.opened Requests.opened Refine.opened
 grey-is-thin = tt

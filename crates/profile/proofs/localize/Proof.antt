@@ -10,9 +10,9 @@ use lib.ListN.{length, length-set}
 use Rattle.photograph.specs.Photographs.{photo}
 use Rattle.sample_tree.specs.Run.{state, sampler, Runs}
 use Rattle.sample_tree.proofs.Meaning.{sheet-long, copy-long}
-use Rattle.peak.specs.declared.Located.{Located}
-use Rattle.peak.specs.declared.Located.the-variants.{NoEdge}
-use Rattle.peak.specs.Aitken.{aitken}
+use Rattle.aitken.specs.declared.Located.{Located}
+use Rattle.aitken.specs.declared.Located.the-variants.{NoEdge}
+use Rattle.aitken.specs.Aitken.{aitken}
 use Rattle.profile.specs.Profile.{localize}
 use Rattle.profile.proofs.SampleProfile.{Left, begun, went-on, broke-off, ended}
 use Rattle.profile.proofs.Passes.{Passed, none-yet, pass-broke, no-peak, pass-done, all-passed}

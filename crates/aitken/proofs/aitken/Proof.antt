@@ -1,10 +1,10 @@
 -- `aitken` meets its contract: a case for each answer of `extrapolate`. Assumes nothing.
 use mathlib.Core.Path.{sym, _∙_}
-use Rattle.peak.specs.Aitken.{moved}
-use Rattle.peak.proofs.Peaks.{aitken-by}
+use Rattle.aitken.specs.Aitken.{moved}
+use Rattle.aitken.proofs.Limits.{aitken-by}
 use borrow.Author.Needs.{needs}
-use Rattle.peak.proofs.aitken.Statement.{statement}
-use Rattle.peak.proofs.aitken.Tie as tie
+use Rattle.aitken.proofs.aitken.Statement.{statement}
+use Rattle.aitken.proofs.aitken.Tie as tie
 
 array-read-extrapolate : tie.Need-array-read-extrapolate
 array-read-extrapolate c = search needs

@@ -11,10 +11,10 @@ use Rattle.pixel.specs.Pixels.{source, edgePoint}
 use Rattle.pixel.specs.declared.SourcePixel.{SourcePixel}
 use Rattle.pixel.specs.declared.Direction.{Direction}
 use Rattle.pixel.specs.declared.EdgePoint.{EdgePoint}
-use Rattle.peak.specs.declared.Extrapolated.{Extrapolated}
-use Rattle.peak.specs.declared.Extrapolated.the-variants.{Converged, Shifted, Diverged}
-use Rattle.peak.specs.declared.Located.{Located}
-use Rattle.peak.specs.declared.Located.the-variants.{Found, NoEdge}
+use Rattle.aitken.specs.declared.Extrapolated.{Extrapolated}
+use Rattle.aitken.specs.declared.Extrapolated.the-variants.{Converged, Shifted, Diverged}
+use Rattle.aitken.specs.declared.Located.{Located}
+use Rattle.aitken.specs.declared.Located.the-variants.{Found, NoEdge}
 
 -- Aitken: how far from the third of three projections they tend
 unfoldable pub extrapolate : Float → Float → Float → Float → Extrapolated

@@ -1,0 +1,2 @@
+-- What the contracts of `aitken` cite.
+pub mod Aitken
