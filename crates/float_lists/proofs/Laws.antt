@@ -44,3 +44,11 @@ all-fails (suc n) f i l h =
     (λ (e : i ≡ n). sym (ap (λ (b : Bool). allTo n f && b) (sym (ap f e) ∙ h) ∙ and-false (allTo n f)))
     (λ (k : i < n). ap (λ (b : Bool). b && f n) (all-fails n f i k h))
     (eq-or-lt-of-le (omega arith))
+
+-- all of n are so, and so is each
+pub all-each : (n : ℕ) (f : ℕ → Bool) (i : ℕ) → i < n → allTo n f ≡ true → f i ≡ true
+all-each n f i h e = by (f i) (λ q. all-fails n f i h q)
+  where
+    by : (b : Bool) → (b ≡ false → false ≡ allTo n f) → b ≡ true
+    by true g = refl
+    by false g = g refl ∙ e

@@ -10,6 +10,7 @@ pub mod Inputs
 pub mod Roots
 pub mod RootLaws
 pub mod Counts
+pub mod Magnitudes
 pub mod Scaled
 pub mod Window
 pub mod Digits
