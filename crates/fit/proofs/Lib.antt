@@ -2,10 +2,13 @@
 
 -- theorems to be read alone, and what they rest on
 pub mod SortOrders
+pub mod CountingSorts
 pub mod Rising
 -- what the functions' proofs cite
 pub mod Lists
 pub mod Sorting
+pub mod Searching
+pub mod ResidualMagnitudes
 pub mod Inliers
 pub mod Points
 -- what the crates above cite

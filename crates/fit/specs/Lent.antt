@@ -2,13 +2,10 @@
 -- Internal: contracts inside the crate cite it, no public one does, and nothing here has to be believed.
 use Prim.Native.Nat.{ℕ, _<_, _≤_}
 use mathlib.Core.Path.{_≡_}
-use mathlib.Core.Bool.{true, false}
 use mathlib.Core.List.{List}
 use lib.ListN.{length, take}
 use lib.Ieee.{Float}
-use Rattle.ieee.specs.Floats.{_≺_}
 use Rattle.consts.specs.Consts.{maxEdgePoints}
-use Rattle.float_lists.specs.Sums.{at}
 use Rattle.fit.specs.Fit.{inliers}
 
 -- as many x as y and weights, and no more than an array holds
@@ -16,12 +13,6 @@ pub record Paired (xs ys ws : List Float) : Type 0 where
   pub ys-too : length ys ≡ length xs
   pub weights-too : length ws ≡ length xs
   pub hold : length xs ≤ maxEdgePoints
-
--- p is where the value at i belongs among those before it: behind those that it is not below
-pub record Place (values : List Float) (i p : ℕ) : Type 0 where
-  pub within : p ≤ i
-  pub behind : (k : ℕ) → k < p → (at values i ≺ at values k) ≡ false
-  pub ahead : p < i → (at values i ≺ at values p) ≡ true
 
 -- the first n of `out` are those of xs whose residual is at most the threshold
 pub record Compacted (most : Float) (rs xs out : List Float) (n : ℕ) : Type 0 where
