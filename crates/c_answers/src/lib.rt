@@ -34,7 +34,7 @@ fn put_flag(out: &mut [u32], i: usize, b: bool)
 }
 
 // Writes what is counted of an edge from an index on: probed, fit, dropped, valid.
-fn put_stat(out: &mut [u32], at: u32, e: EdgeStat)
+pub fn put_stat(out: &mut [u32], at: u32, e: EdgeStat)
     ensures { λ _. ⌜ now (out .exit) ≡ withStat at e (now (out .entry)) ⌝ }
 {
     let i = at as usize;

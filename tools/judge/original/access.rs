@@ -204,6 +204,17 @@ pub fn fit_line(points: &[[f64; 2]], weights: &[f64]) -> Result<qr_lab_geometry:
     crate::refusal::fitted(qr_lab_geometry::fit_line_tls_weighted(points, weights))
 }
 
+/// `fit_edge`: the line, or zeros where there is none, then probed, fit, dropped and valid.
+pub fn fit_edge(points: &[[f64; 2]], weights: &[f64], probed: usize, module_px: f64) -> Result<[f64; 8], u32> {
+    let localized: Vec<EdgePoint> =
+        points.iter().zip(weights).map(|(&pos, &weight)| EdgePoint { pos, weight }).collect();
+    let (fit, stat) = numbered(|| super::fit_edge(&localized, probed, module_px))?;
+    let line = fit.map_or([0.0; 4], |l| [l.centroid[0], l.centroid[1], l.dir[0], l.dir[1]]);
+    let counts = [stat.points_probed, stat.points_fit, stat.dropped_outliers, u32::from(stat.valid)];
+    let value = |i: usize| if i < 4 { line[i] } else { f64::from(counts[i - 4]) };
+    Ok(std::array::from_fn(value))
+}
+
 /// Square roots taken so far, those of refine.rs and of the line fit.
 pub fn roots() -> u64 {
     qr_lab_image::watch::ROOTS.with(|n| n.get()) + qr_lab_geometry::ROOTS.with(|n| n.get())

@@ -267,6 +267,61 @@ fn fit(r: &mut Rng) -> Case {
     }
 }
 
+/// Points whose first line lies on the x axis, exactly: each with its mirror images in both axes, so that the residuals are their
+/// |y|. Most |y| are equal; some are 0, some twice that, which is twice the median, and some the outlier floor itself or beside it.
+fn mirrored(r: &mut Rng, module_px: f64) -> Vec<[f64; 2]> {
+    let unit = r.pick(&[1.0, 0.5, 3.0, 0.1]);
+    let floor = 0.15 * module_px;
+    let mut points = Vec::new();
+    for k in 0..r.int(1, 15) {
+        let x = 8.0 * (k + 2) as f64;
+        let y = match r.below(8) {
+            0 => 0.0,
+            1 => 2.0 * unit,
+            2 => neighbour(2.0 * unit, r.int(-1, 1)),
+            3 => floor,
+            4 => neighbour(floor, r.int(-1, 1)),
+            _ => unit,
+        };
+        points.extend([[x, y], [-x, y], [x, -y], [-x, -y]]);
+    }
+    if r.chance(0.5) {
+        points.push([0.0, 0.0]);
+    }
+    points
+}
+
+fn edge(r: &mut Rng) -> Case {
+    let module_px = if r.chance(0.1) { r.float() } else { r.pick(&[1.0, 4.0, 20.0, 0.0]) * r.range(0.5, 1.5) };
+    let kind = r.below(8);
+    let points: Vec<[f64; 2]> = if kind < 4 {
+        mirrored(r, module_px)
+    } else {
+        let n = r.below(65);
+        let (slope, noise) = (r.range(-2.0, 2.0), r.decades(-12.0, 1.0));
+        let mut value = |x: f64| match kind {
+            4 => slope * x,
+            5 => r.int(-2, 2) as f64,
+            6 if r.chance(0.02) => r.float(),
+            _ => slope * x + r.range(-1.0, 1.0) * noise + if r.chance(0.1) { 5.0 } else { 0.0 },
+        };
+        (0..n).map(|i| [i as f64, value(i as f64)]).collect()
+    };
+    let even = r.chance(0.7);
+    let weights: Vec<f64> = points.iter().map(|_| if even || kind < 4 { 16.0 } else { r.range(0.0, 250.0) }).collect();
+    let (xs, ys): (Vec<f64>, Vec<f64>) = points.iter().map(|p| (p[0], p[1])).unzip();
+    let probed = r.below(70) as u32;
+    Case {
+        name: "fit_edge",
+        input: format!("x {xs:?}, y {ys:?}, weights {weights:?}, probed {probed}, module {module_px:?}"),
+        rust: match access::fit_edge(&points, &weights, probed as usize, module_px) {
+            Ok(values) => (0, values.to_vec()),
+            Err(number) => refused(number, 8),
+        },
+        port: got(port::fit_edge(&xs, &ys, &weights, probed, module_px)),
+    }
+}
+
 fn cross(r: &mut Rng) -> Case {
     let (a, b) = (line(r), line(r));
     let of = |l: [f64; 4]| Line2 { centroid: [l[0], l[1]], dir: [l[2], l[3]] };
@@ -381,7 +436,7 @@ fn root(r: &mut Rng) -> Case {
 
 type Leaf = (u64, fn(&mut Rng) -> Case);
 
-/// How often in a hundred.
+/// How often, in so many in all.
 const LEAVES: &[Leaf] = &[
     (20, bilinear),
     (12, to_source),
@@ -392,6 +447,7 @@ const LEAVES: &[Leaf] = &[
     (6, inverse),
     (6, then),
     (12, fit),
+    (12, edge),
     (8, cross),
     (10, localize),
     (6, root),

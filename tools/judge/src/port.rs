@@ -128,6 +128,34 @@ pub fn fit_line(xs: &[f64], ys: &[f64], ws: &[f64]) -> Leaf<4> {
     leaf(|| raw::fit_line_tls_weighted(xs, ys, ws))
 }
 
+#[cfg(fit)]
+extern "C" {
+    fn judge_fit_edge(
+        xs: *const f64, xs_len: usize, ys: *const f64, ys_len: usize, weights: *const f64, weights_len: usize,
+        probed: u32, module_px: f64, line: *mut f64, line_len: usize, counts: *mut u32, counts_len: usize,
+    ) -> u32;
+}
+
+/// The fit of an edge: its line, then probed, fit, dropped and valid.
+#[cfg(fit)]
+pub fn fit_edge(xs: &[f64], ys: &[f64], ws: &[f64], probed: u32, module_px: f64) -> Leaf<8> {
+    let (mut line, mut counts) = ([f64::NAN; 4], [u32::MAX; 4]);
+    // SAFETY: each pointer has the length of its own array or slice beside it, and the buffers are this function's.
+    let number = unsafe {
+        judge_fit_edge(
+            xs.as_ptr(), xs.len(), ys.as_ptr(), ys.len(), ws.as_ptr(), ws.len(),
+            probed, module_px, line.as_mut_ptr(), 4, counts.as_mut_ptr(), 4,
+        )
+    };
+    let value = |i: usize| if i < 4 { line[i] } else { f64::from(counts[i - 4]) };
+    Some((number, std::array::from_fn(value)))
+}
+
+#[cfg(not(fit))]
+pub fn fit_edge(_: &[f64], _: &[f64], _: &[f64], _: u32, _: f64) -> Leaf<8> {
+    None
+}
+
 pub fn intersect_lines(a: &[f64; 4], b: &[f64; 4]) -> Leaf<2> {
     leaf(|| raw::intersect_lines(&line(*a), &line(*b)))
 }

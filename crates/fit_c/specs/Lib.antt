@@ -1,0 +1,2 @@
+-- What the contracts of `fit_c` cite.
+pub mod Edge
