@@ -1,5 +1,5 @@
 // Reads the list of tools/vectors/make and prints what the processor and the C library make of each line, in the
-// layout of ieee_vectors. Every NaN is printed as 7ff8000000000000.
+// layout of test_ieee_vectors. Every NaN is printed as 7ff8000000000000.
 #include <inttypes.h>
 #include <math.h>
 #include <stdio.h>
