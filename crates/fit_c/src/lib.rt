@@ -1,4 +1,4 @@
-// `fit` for programs in C: tools/judge holds an edge's fit against the Rust's, and times it.
+// `fit` for programs in C: tools/judge holds an edge's fit against the Rust's, and bench/fit times it.
 ghost use mathlib.Core.Path.{_≡_};
 ghost use Rattle.c_buffers.specs.Buffers.{withLine};
 ghost use Rattle.c_answers.specs.Answers.{withStat};
@@ -6,7 +6,8 @@ ghost use Rattle.corners.specs.Corners.{lineIn, statIn};
 ghost use Rattle.fit_c.specs.Edge.{edgeOf};
 use edges::Edges;
 
-// `fit::fit_edge` for C, under the default settings: the line goes to one buffer, and probed, fit, dropped and valid to another.
+// `fit::fit_edge` for C, under the default settings: the line goes to one buffer, and probed, fit,
+// dropped and valid to another.
 #[no_mangle]
 pub extern "C" fn fit_edge(
     xs: &[f64],
