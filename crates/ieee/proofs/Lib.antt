@@ -5,5 +5,9 @@ pub mod Examples
 pub mod Patterns
 pub mod Order
 pub mod Larger
+pub mod Counts
+pub mod Magnitudes
+pub mod Zeros
+pub mod Squares
 -- the definitions opened together
 pub mod Opened

@@ -2,20 +2,21 @@
 -- `RootNearest.antt` states what follows of the values themselves. Assumes nothing.
 use mathlib.Core.Path.{_≡_, refl, sym, ap, _∙_, subst}
 use mathlib.Core.Logic.{_⊎_, inl, inr}
-use mathlib.Core.Bool.{Bool, true, false, _&&_}
+use mathlib.Core.Bool.{Bool, true, false}
 use Prim.Native.Nat.{ℕ, zero, suc, _+_, _-_, _*_, _/_, _%_, _^_, _≤_, _<_}
 use native.Mathlib.Nat.{le-trans, le-of-eq, le-of-lt, lt-of-lt-of-le, lt-of-le-of-lt, lt-of-not-le, not-le-of-lt, lt-irrefl, zero-lt-suc, sub-add-cancel, mul-one, zero-mul, mul-comm, mul-assoc, mul-left-comm, add-mul, mul-le-mul-left, mul-le-mul-right, mul-lt-mul-of-pos-right, lt-of-mul-lt-mul-right, eq-of-mul-eq-mul-right, mul-pos, eq-or-lt-of-le}
 use native.Mathlib.Numerals.{add-one}
 use native.Mathlib.Decide.{decLe}
 use native.Mathlib.Omega.{arith}
-use lib.IntN.{ℤ, pos, negsuc}
-use lib.Dec.{T, leb, ltb, eqb, leb→le, ltb→lt, lit<, lit≤}
+use lib.IntN.{pos, negsuc}
+use lib.Dec.{T, leb, lit<, lit≤}
 use lib.Pow.{pow-pos, pow-mono, pow-add, shl-lt}
 use lib.Count.{leadingZeros}
 use lib.Ieee.{Float, nan, inf, fin, binary64, up, down, units, fits, toBits}
 use lib.Ieee.Exact.{HasValue}
-use lib.Ieee.Fits.{down-pos, and-l, and-r}
+use lib.Ieee.Fits.{down-pos}
 use lib.Ieee.Positive.{positive, above, value-pos}
+use Rattle.ieee.proofs.Counts.{pow-le-back, in-units}
 use Rattle.ieee.proofs.Patterns.{fits-says}
 use Rattle.ieee_root.specs.Root.{root, rootBy, rootUnits, NearRoot}
 use Rattle.ieee_root.proofs.Inputs.{Reading, subnormal, normal, infinite, reading, root-of-value, digits-between, lifted, lifted-same}
@@ -133,13 +134,6 @@ rooted x a F P U =
 
 abbrev Point : ℕ → Type 0
 Point n = (m : ℕ) × (j : ℕ) × (m < 2 ^ 53) × (n ≡ m * 2 ^ j)
-
-pow-le-back : (i p : ℕ) → 2 ^ i ≤ 2 ^ p → i ≤ p
-pow-le-back i p h = go (decLe i p)
-  where
-    go : Dec (i ≤ p) → i ≤ p
-    go (yes l) = l
-    go (no f) = absurd (not-le-of-lt (lib.Pow.pow-lt (lt-of-not-le f)) h)
 
 point : (y : Float) (n : ℕ) → T (fits binary64 y) → HasValue y false n (2 ^ 1074) → Point n
 point nan n F h = absurd h
@@ -308,27 +302,10 @@ unfolding fits
 cond-fits true = tt
 cond-fits false = tt
 
-pub in-units : (m : ℕ) (e : ℤ) → T (fits binary64 (fin false (suc m) e)) → HasValue (fin false (suc m) e) false (suc m * up e * 2 ^ 1074 / down e) (2 ^ 1074)
-in-units m e F = go (point-of e F)
-  where
-    point-of : (e : ℤ) → T (fits binary64 (fin false (suc m) e)) → (a : ℕ) × (suc m * up e * 2 ^ 1074 ≡ a * down e)
-    point-of (pos k) F = (suc m * 2 ^ k * 2 ^ 1074, sym (mul-one (suc m * 2 ^ k * 2 ^ 1074)))
-    point-of (negsuc k) F =
-        let j = 1074 - suc k in (
-          suc m * 2 ^ j,
-          ap (λ (z : ℕ). z * 2 ^ 1074) (mul-one (suc m))
-              ∙ ap (λ (z : ℕ). suc m * 2 ^ z) (sym (sub-add-cancel (pow-le-back (suc k) 1074 (fits-says false m (negsuc k) F .1))))
-              ∙ ap (λ (z : ℕ). suc m * z) (pow-add 2 j (suc k))
-              ∙ sym (mul-assoc (suc m) (2 ^ j) (2 ^ suc k)),
-        )
-
-    go : (a : ℕ) × (suc m * up e * 2 ^ 1074 ≡ a * down e) → HasValue (fin false (suc m) e) false (suc m * up e * 2 ^ 1074 / down e) (2 ^ 1074)
-    go p = (refl, p .1 ∙ ap (λ (z : ℕ). z * down e) (sym (ap (λ (z : ℕ). z / down e) (p .1) ∙ native.Mathlib.Nat.mul-div-cancel (p .0) (down-pos e))))
-
 pub root-fits : (x : Float) → T (fits binary64 x) → T (fits binary64 (root binary64 x))
 unfolding root
 root-fits nan F = F
 root-fits (inf s) F = cond-fits s
 root-fits (fin s zero e) F = F
 root-fits (fin true (suc m) e) F = lib.Ieee.Fits.nan-fits binary64
-root-fits (fin false (suc m) e) F = held-root (fin false (suc m) e) (suc m * up e * 2 ^ 1074 / down e) F (lib.Dec.lt→ltb 0 (suc m) (zero-lt-suc m)) (in-units m e F)
+root-fits (fin false (suc m) e) F = held-root (fin false (suc m) e) (suc m * up e * 2 ^ 1074 / down e) F (lib.Dec.lt→ltb 0 (suc m) (zero-lt-suc m)) (in-units false m e F)

@@ -18,7 +18,8 @@ use lib.Ieee.Positive.{positive, positive-finite}
 use Rattle.ieee_root.specs.Root.{root}
 use Rattle.ieee_root.proofs.Roots.{square-mono}
 use Rattle.ieee_root.proofs.RootLaws.{Beside, half-unit, root-fits}
-use Rattle.ieee_root.proofs.Counts.{count, negative, count-exact, count-tells, count-of, positive-sign, found, root-positive, beside, above-half}
+use Rattle.ieee.proofs.Counts.{count, negative, count-exact, count-tells, count-of}
+use Rattle.ieee_root.proofs.Counts.{positive-sign, found, root-positive, beside, above-half}
 
 -- ---- the root is nearer than any other value
 

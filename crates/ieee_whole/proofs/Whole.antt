@@ -1,19 +1,20 @@
 -- The whole numbers at or below and at or above a value of binary64: what `floor` and `ceil` cite. Assumes nothing.
 use mathlib.Core.Path.{_≡_, refl, sym, ap, _∙_, subst}
-use mathlib.Core.Bool.{Bool, true, false, not, _&&_, cond, true≢false, false≢true}
+use mathlib.Core.Bool.{Bool, true, false, true≢false, false≢true}
 use Prim.Native.Nat.{ℕ, zero, suc, _+_, _-_, _*_, _/_, _%_, _^_, _≤_, _<_, min}
 use native.Mathlib.Nat.{mul-lt-mul-of-pos-right, add-zero, mul-pos, le-trans, le-of-eq, le-of-lt, not-le-of-lt, zero-lt-suc, mul-one, one-mul, zero-mul, mul-assoc, mul-right-comm, mod-lt, div-one, div-lt-iff-lt-mul, div-add-mod', eq-of-mul-eq-mul-right}
 use native.Mathlib.Omega.{arith}
 use lib.IntN.{ℤ, pos, negsuc}
-use lib.Dec.{T, leb, ltb, eqb, leb→le, ltb→lt, lt→ltb, nltb→le, le→leb, eqb→eq, lit<}
+use lib.Dec.{T, eqb, ltb→lt, lt→ltb, nltb→le, le→leb, eqb→eq, lit<}
 use lib.Pow.{pow-pos, pow-add}
 use lib.Arith.{digits-div}
-use lib.Ieee.{Float, nan, inf, fin, Format, binary64, prec, emax, low, up, down, odd, units, round, neg, ofInt, inFloat, toUnsigned, lt, eq, fits, ofBits}
-use lib.Ieee.Fits.{down-pos, and-l, and-r, eq→eqb, round-is, round-fits}
+use lib.Ieee.{Float, nan, inf, fin, binary64, up, down, round, neg, ofInt, inFloat, toUnsigned, lt, eq, fits, ofBits}
+use lib.Ieee.Fits.{down-pos, and-l, eq→eqb, round-fits}
 use lib.Ieee.Exact.{HasValue, round-exact}
 use lib.Ieee.Back.{round-whole, whole-unique}
 use Rattle.ieee.specs.Parts.{magnitude}
 use Rattle.ieee_whole.specs.Whole.{floorDiv, ceilDiv, floorOf, ceilOf}
+use Rattle.ieee.proofs.Magnitudes.{neg-round}
 use Rattle.ieee.proofs.Patterns.{yes, no, fits-says}
 
 -- 2 ^ 53 as MIR has it
@@ -23,24 +24,6 @@ two53 = fin false 1 (pos 53)
 pub two53-is : ofBits binary64 0x4340_0000_0000_0000 ≡ two53
 unfolding ofBits
 two53-is = refl
-
--- ---- negation and rounding
-
-neg-odd : (d : ℕ) (s : Bool) (q k l : ℕ) → neg (odd d s q k l) ≡ odd d (not s) q k l
-unfolding neg odd
-neg-odd d s zero k l = refl
-neg-odd d s (suc q) k l = refl
-
-neg-units : (f : Format) (s : Bool) (q k : ℕ) → neg (units f s q k) ≡ units f (not s) q k
-unfolding units neg
-neg-units f s q k = go (ltb (q * 2 ^ k) (2 ^ (low f + suc (emax f))))
-  where
-    go : (b : Bool) → neg (cond b (odd (suc (prec f)) s q k (low f)) (inf s)) ≡ cond b (odd (suc (prec f)) (not s) q k (low f)) (inf (not s))
-    go true = neg-odd (suc (prec f)) s q k (low f)
-    go false = refl
-
-pub neg-round : (f : Format) (s : Bool) (a c : ℕ) → neg (round f s a c) ≡ round f (not s) a c
-neg-round f s a c = ap neg (round-is f s a c) ∙ neg-units f s _ _ ∙ sym (round-is f (not s) a c)
 
 ofInt-is : (n : ℕ) → ofInt binary64 (pos n) ≡ round binary64 false n 1
 unfolding ofInt

@@ -4,20 +4,24 @@ use mathlib.Core.Path.{_≡_, refl, sym, ap, _∙_, subst}
 use Prim.Native.Nat.{ℕ, _+_, _-_, _*_, _/_, _^_, _≤_, _<_, min}
 use native.Mathlib.Nat.{mul-one, mul-right-comm, mul-le-mul-right, le-of-mul-le-mul-right, mul-pos, le-div-iff-mul-le, div-lt-iff-lt-mul, le-of-lt}
 use native.Mathlib.Omega.{arith}
-use mathlib.Core.Bool.{Bool, true, false, not, true≢false}
-use lib.Dec.{ltb, lit<}
-use lib.Ieee.{Float, nan, inf, fin, binary64, up, down, round, neg, sum, add, sub, lt, eq, le, ofBits, ofInt, toUnsigned}
+use mathlib.Core.Bool.{Bool, true, false, not, _&&_, cond, true≢false}
+use lib.Dec.{T, ltb, lit<}
+use lib.Ieee.{Float, nan, inf, fin, binary64, up, down, round, neg, sum, add, sub, lt, eq, le, fits, ofBits, ofInt, toUnsigned}
 use lib.Ieee.Bits.{is-true}
 use lib.Ieee.Exact.{HasValue}
 use lib.Ieee.Back.{round-whole}
 use lib.Ieee.Order.{round-mono}
-use lib.Ieee.Fits.{down-pos}
+use lib.Ieee.Fits.{down-pos, add-fits}
 use borrow.Author.Tests.{ltb-true, ltb-false, le-ltb}
-use Rattle.ieee.specs.Floats.{_⊖_, _≺_, _≼_, f1, float}
+use Rattle.ieee.specs.Floats.{_⊖_, _⊗_, _≺_, _≼_, f0, f1, float}
 use Rattle.ieee.specs.Parts.{isFinite}
-use Rattle.ieee_whole.specs.Whole.{splitWhole}
+use Rattle.ieee_whole.specs.Whole.{splitWhole, ifBetween, splitBetween}
 use Rattle.ieee_whole.specs.declared.Split.{Split}
-use Rattle.ieee.proofs.Order.{at-most, gone, zeros, not-more}
+use Rattle.ieee_whole.specs.declared.Between.{Between}
+use Rattle.ieee_whole.specs.declared.Between.the-variants.{Wholes, Nothing}
+use Rattle.ieee.proofs.Order.{at-most, gone, zeros, not-more, else-more}
+use Rattle.ieee.proofs.Magnitudes.{Signed, round-signed}
+use Rattle.ieee.proofs.Squares.{square-below}
 
 -- a whole number below 2 to the 53 is a float of that value
 pub float-value : (n : ℕ) → n < 2 ^ 53 → HasValue (float n) false n 1
@@ -46,7 +50,7 @@ not-below-one : (p q c : ℕ) → 0 < c → c + q ≤ p → (round binary64 fals
 not-below-one p q c pos h =
     not-more f1 (round binary64 false (p - q) c)
     (is-true (f1 ≼ round binary64 false (p - q) c)
-    (subst (λ (u : Float). lib.Dec.T (u ≼ round binary64 false (p - q) c)) one (round-mono binary64 1 1 (p - q) c (lit< tt) pos (far (p - q) (omega arith)))))
+    (subst (λ (u : Float). T (u ≼ round binary64 false (p - q) c)) one (round-mono binary64 1 1 (p - q) c (lit< tt) pos (far (p - q) (omega arith)))))
   where
     far : (r : ℕ) → c ≤ r → 1 * c ≤ r * 1
     far r h = omega arith
@@ -112,3 +116,78 @@ split-at x h = ap at h
   where
     at : ℕ → Split
     at k = record { whole = k; left = x ⊖ float k }
+
+-- ---- a guess of which x leaves something whose square is below it
+
+-- the other way round a difference is negative
+other : (p q c : ℕ) → ltb p q ≡ true → sum binary64 false p true q c ≡ round binary64 true (q - p) c
+unfolding sum
+other p q c h = rw h
+
+-- what is rounded with the sign - is not above 0
+not-above : (a c : ℕ) → (f0 ≺ round binary64 true a c) ≡ false
+unfolding lt ofBits
+not-above a c = by (round binary64 true a c) (round-signed binary64 true a c)
+  where
+    by : (z : Float) → Signed true z → (f0 ≺ z) ≡ false
+    by nan h = absurd h
+    by (inf true) h = refl
+    by (inf false) h = absurd (true≢false (sym h))
+    by (fin true n d) h = refl
+    by (fin false n d) h = absurd (true≢false (sym h))
+
+-- a y of w's value that leaves something above 0 of x is at most x
+leaves : (w : ℕ) (y x : Float) → HasValue y false w 1 → (f0 ≺ (x ⊖ y)) ≡ true → (y ≼ x) ≡ true
+unfolding neg sum add sub lt eq le ofBits isFinite
+leaves w nan x v h = absurd v
+leaves w (inf s) x v h = absurd v
+leaves w (fin true k d) x v h = absurd (true≢false (v .0))
+leaves w (fin false k d) nan v h = absurd (true≢false (sym h))
+leaves w (fin false k d) (inf true) v h = absurd (true≢false (sym h))
+leaves w (fin false k d) (inf false) v h = refl
+leaves w (fin false k d) (fin true m e) v h = absurd (true≢false (sym h ∙ not-above (m * up e * down d + k * up d * down e) (down e * down d)))
+leaves w (fin false k d) (fin false m e) v h = by (fin false k d ≼ fin false m e) refl
+  where
+    by : (b : Bool) → (fin false k d ≼ fin false m e) ≡ b → (fin false k d ≼ fin false m e) ≡ true
+    by true hb = hb
+    by false hb =
+        let less = else-more (fin false k d) (fin false m e) refl refl hb in
+        absurd (true≢false (sym h ∙ ap (λ (u : Float). f0 ≺ u) (other (m * up e * down d) (k * up d * down e) (down e * down d) less) ∙ not-above (k * up d * down e - m * up e * down d) (down e * down d)))
+
+between : (s : Split) → (f0 ≺ s .left) ≡ true → (s .left ≺ f1) ≡ true → Wholes s ≡ ifBetween s
+unfolding ifBetween
+between s h g = rw (h, g)
+
+left-fits : (w : ℕ) (x : Float) → T (fits binary64 (x ⊖ float w))
+unfolding sub
+left-fits w x = add-fits binary64 x (neg (float w))
+
+pub between-at : (w : ℕ) (x : Float) → w < 2 ^ 32 → ((x ⊖ float w) ⊗ (x ⊖ float w) ≺ (x ⊖ float w)) ≡ true → Wholes (record { whole = w; left = x ⊖ float w }) ≡ splitBetween x
+between-at w x small h =
+    let amid = square-below (x ⊖ float w) (left-fits w x) h in
+    between (record { whole = w; left = x ⊖ float w }) (amid .0) (amid .1)
+    ∙ ap ifBetween (split-at x (accepted w x small (leaves w (float w) x (float-value w (omega (arith, small))) (amid .0)) (amid .1)))
+
+-- ---- what a split of `splitBetween` is
+
+split-in : Between → Split → Split
+split-in (Wholes s) other = s
+split-in Nothing other = other
+
+is-wholes : Between → Bool
+is-wholes (Wholes s) = true
+is-wholes Nothing = false
+
+pub wholes-are : (x : Float) {a : Split} → Wholes a ≡ splitBetween x → (a ≡ splitWhole x) × ((f0 ≺ a .left) ≡ true)
+unfolding ifBetween is-wholes split-in
+wholes-are x {a} h = by (f0 ≺ splitWhole x .left && splitWhole x .left ≺ f1) refl h
+  where
+    first : (b g : Bool) → (b && g) ≡ true → b ≡ true
+    first true g k = refl
+    first false g k = k
+
+    by : (b : Bool) → (f0 ≺ splitWhole x .left && splitWhole x .left ≺ f1) ≡ b → Wholes a ≡ cond b (Wholes (splitWhole x)) Nothing → (a ≡ splitWhole x) × ((f0 ≺ a .left) ≡ true)
+    by true e k =
+        let same = ap (λ (t : Between). split-in t a) k in
+        (same, ap (λ (s : Split). f0 ≺ s .left) same ∙ first (f0 ≺ splitWhole x .left) (splitWhole x .left ≺ f1) e)
+    by false e k = absurd (true≢false (ap is-wholes k))
