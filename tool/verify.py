@@ -7,7 +7,7 @@ from pathlib import Path
 from typing import Any
 
 import numpy as np
-from trufolmesca import Number, Refused, word_of
+from trufolmesca import Number, Refused, archive_sha256, word_of
 
 from tool import Unanswered, printable
 from tool.published import Differs, camera_of, read_fields, read_published
@@ -98,7 +98,7 @@ def _compare_pixels(fields: dict[str, Any], copy: np.ndarray, sheet: np.ndarray,
         raise Differs("the sheet was changed: its pixels are not those whose hash was published")
     wrong = int((run.marks.sheet != sheet // 255).sum())
     if wrong:
-        raise Differs(f"the run over the copy marks another sheet: {_pixels(wrong)} differ{_effect(fields, run)}")
+        raise Differs(f"the run over the copy marks another sheet: {_pixels(wrong)} differ{_effect(fields, run)}{_library(fields)}")
     wrong = int((run.marks.copy != copy).sum())
     if wrong:
         raise Differs(f"the run over the copy leaves another copy: {_pixels(wrong)} differ")
@@ -115,6 +115,13 @@ def _effect(fields: dict[str, Any], run: Run) -> str:
         return f"; a run over it ends in {run.number} ({run.word}), not in {fields['number']}"
     moved = float(np.abs(run.answer.corners - np.array(fields["answer"]["corners"])).max())
     return f"; a run over it moves a corner by {moved:.3g} pixel" if moved else "; the corners stay the same"
+
+
+def _library(fields: dict[str, Any]) -> str:
+    """What to add where the record was made with another library, which may have read other pixels."""
+    made_with, here = fields["versions"].get("library_archive_sha256"), archive_sha256()
+    known = made_with is not None and here is not None
+    return f"; it was measured with another library, of archive {printable(str(made_with))}" if known and made_with != here else ""
 
 
 def _compare_answer(fields: dict[str, Any], run: Run) -> None:

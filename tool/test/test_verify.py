@@ -108,7 +108,9 @@ def test_a_copy_and_a_sheet_changed_together_with_their_hashes(measured):
     for name, pixels in (("sheet", sheet), ("blanked", copy)):
         (measured.out / f"find.{name}.png").write_bytes(encoded(pixels, ".png"))
     change(measured, lambda fields: fields.update(copy_sha256=sha256_of_pixels(copy), sheet_sha256=sha256_of_pixels(sheet // 255)))
-    refused(measured, "marks another sheet: 1 pixel differ")
+    refused(measured, "marks another sheet: 1 pixel differ; the corners stay the same\n")
+    change(measured, lambda fields: fields["versions"].update(library_archive_sha256="5c91"))
+    refused(measured, "1 pixel differ; the corners stay the same; it was measured with another library, of archive 5c91\n")
 
 
 def changed_pair(part: str | None, bits: bool):

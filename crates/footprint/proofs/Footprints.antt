@@ -1,7 +1,7 @@
 -- Where a sample falls, by the tests on the way: what each test of the code says of the definition. Each law unfolds the definition and
 -- puts the tests' results in. Assumes nothing.
 use mathlib.Core.Path.{_≡_, refl, sym, ap, _∙_}
-use Prim.Native.Nat.{ℕ, _-_, _^_, _<_}
+use Prim.Native.Nat.{ℕ, _+_, _-_, _^_, _<_, min}
 use native.Mathlib.Omega.{arith}
 use mathlib.Core.Bool.{Bool, true, false, not, _&&_, _||_, and-false, true≢false}
 use lib.Ieee.{Float, ofBits}
@@ -9,7 +9,7 @@ use borrow.Author.Tests.{not-true, not-false}
 use Rattle.prelude.proofs.Tests.{both}
 use Rattle.prelude.specs.Prelude.{if_then_else_}
 use Rattle.ieee.specs.Parts.{isFinite}
-use Rattle.ieee.specs.Floats.{_≺_, _≼_, f0, float}
+use Rattle.ieee.specs.Floats.{_≺_, _≼_, _≐_, f0, float}
 use Rattle.ieee.proofs.Order.{not-more, else-more, amid-finite}
 use Rattle.ieee_whole.proofs.WholeGuess.{float-finite}
 use Rattle.pixel.specs.declared.SourcePixel.{SourcePixel}
@@ -23,7 +23,18 @@ use Rattle.footprint.specs.declared.Footprint.{Footprint}
 use Rattle.footprint.specs.declared.Footprint.the-variants.{Rejected}
 use Rattle.footprint.specs.declared.View.{View}
 use Rattle.footprint.specs.declared.View.the-variants.{Plain, Calibrated}
-use Rattle.footprint.specs.Footprints.{clamped, outside, interiorCell, atBorder, footprint, pointFootprint, viewedFootprint}
+use Rattle.footprint.specs.Footprints.{neighbour, clamped, outside, interiorCell, atBorder, footprint, pointFootprint, viewedFootprint}
+
+-- ---- the column or row after i
+
+module _ (i n : ℕ) (f : Float) where
+  pub without-weight : (f ≐ f0) ≡ true → i ≡ neighbour i n f
+  unfolding neighbour
+  without-weight h = rw (h, neighbour)
+
+  pub with-weight : {j : ℕ} → (f ≐ f0) ≡ false → j ≡ min (i + 1) (n - 1) → j ≡ neighbour i n f
+  unfolding neighbour
+  with-weight h e = rw (h, neighbour) e
 
 -- ---- beyond the edges
 

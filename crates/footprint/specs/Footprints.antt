@@ -6,7 +6,7 @@ use mathlib.Core.Bool.{Bool, true, not, _||_}
 use lib.Ieee.{Float}
 use Rattle.prelude.specs.Prelude.{if_then_else_}
 use Rattle.ieee.specs.Parts.{isFinite}
-use Rattle.ieee.specs.Floats.{_⊖_, _≺_, f0, float, wholePart}
+use Rattle.ieee.specs.Floats.{_⊖_, _≺_, _≐_, f0, float, wholePart}
 use Rattle.pixel.specs.declared.SourcePixel.{SourcePixel}
 use Rattle.camera.specs.declared.SourcePoint.{SourcePoint}
 use Rattle.camera.specs.declared.SourcePoint.the-variants.{At, Nowhere}
@@ -21,12 +21,19 @@ use Rattle.footprint.specs.declared.Scene.{Scene}
 
 -- ---- sampling.rs
 
--- among four pixels: at the last column the right one is the same, and at the last row the lower one
+-- the column or row after i, cut at the last of n, where the fraction gives it weight, and else i
+unfoldable pub neighbour : ℕ → ℕ → Float → ℕ
+neighbour i n fraction = if fraction ≐ f0 then i else min (i + 1) (n - 1)
+
+-- among the pixels that bear weight: where the x fraction is 0, or -0, the right column is the left
+-- one, and where the y fraction is, the lower row is the upper one
 unfoldable pub interiorCell : ℕ → ℕ → Float → Float → Footprint
 interiorCell w h x y =
     let x0 = wholePart x in
     let y0 = wholePart y in
-    Cell x0 y0 (min (x0 + 1) (w - 1)) (min (y0 + 1) (h - 1)) (x ⊖ float x0) (y ⊖ float y0)
+    let fx = x ⊖ float x0 in
+    let fy = y ⊖ float y0 in
+    Cell x0 y0 (neighbour x0 w fx) (neighbour y0 h fy) fx fy
 
 -- Rust's `x.clamp(0.0, most)`
 unfoldable pub clamped : Float → Float → Float

@@ -1,2 +1,3 @@
 -- What the contracts of `footprint` cite.
 pub mod Footprints
+pub mod AllFour

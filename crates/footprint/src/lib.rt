@@ -4,10 +4,11 @@ ghost use Prim.Native.Nat.{ℕ, _+_, _-_, min};
 ghost use mathlib.Core.Bool.{_&&_, not};
 ghost use Rattle.ieee.specs.Parts.{isFinite};
 ghost use Rattle.camera.specs.Camera.{rectifiedToSource};
-ghost use Rattle.footprint.specs.Footprints.{clamped, outside, interiorCell, atBorder, footprint as footprintOf, pointFootprint, viewedFootprint, sceneFootprint, goodView};
+ghost use Rattle.footprint.specs.Footprints.{clamped, outside, neighbour as neighbourOf, interiorCell, atBorder, footprint as footprintOf, pointFootprint, viewedFootprint, sceneFootprint, goodView};
 ghost use Rattle.footprint.specs.declared.BorderMode.the-variants.{Reject};
 use camera::CameraCalibration;
 use camera::SourcePoint;
+use ieee_whole::Between;
 use pixel::SourcePixel;
 
 // Behaviour outside the pixels' centres.
@@ -20,7 +21,8 @@ pub enum BorderMode {
     Constant(u8),
 }
 
-// Where a sample falls: nowhere, on the constant border, or among four pixels.
+// Where a sample falls: nowhere, on the constant border, or among four pixels. Where a fraction is 0
+// the right column is the left one, or the lower row the upper one.
 pub enum Footprint {
     Rejected,
     Border(u8),
@@ -57,6 +59,14 @@ fn next(i: u32, n: u32) -> u32
     if i < end { i + 1 } else { end }
 }
 
+// The column or row after i where the fraction gives it weight, and else i.
+fn neighbour(i: u32, n: u32, fraction: f64) -> u32
+    ensures { λ r. ⌜ r ≡ neighbourOf i n fraction ⌝ }
+{
+    let after = next(i, n);
+    if fraction == 0.0 { i } else { after }
+}
+
 // Whether a place lies within the pixels' centres, which no NaN and no infinity does.
 fn is_inside(width: u32, height: u32, x: f64, y: f64) -> bool
     ensures { λ r. ⌜ r ≡ (isFinite x && isFinite y && not (outside width height x y)) ⌝ }
@@ -81,7 +91,8 @@ fn clamp(x: f64, most: f64) -> f64
     if x > most { most } else { x }
 }
 
-// The four pixels that a place inside the picture falls among, and its fractions.
+// The four pixels that a place inside the picture falls among, as far as they bear weight, and its
+// fractions.
 fn interior_cell(width: u32, height: u32, x: f64, y: f64) -> Footprint
     ensures { λ r. ⌜ r ≡ interiorCell width height x y ⌝ }
 {
@@ -90,8 +101,8 @@ fn interior_cell(width: u32, height: u32, x: f64, y: f64) -> Footprint
     Footprint::Cell {
         x0: across.whole,
         y0: down.whole,
-        x1: next(across.whole, width),
-        y1: next(down.whole, height),
+        x1: neighbour(across.whole, width, across.left),
+        y1: neighbour(down.whole, height, down.left),
         fx: across.left,
         fy: down.left,
     }
@@ -129,11 +140,28 @@ pub fn footprint_at(width: u32, height: u32, border: BorderMode, x: f64, y: f64)
     at_border(width, height, border, x, y)
 }
 
-// Where a sample falls with the border rejected.
+// Where a sample falls with the border rejected. Nearly always both coordinates lie between whole
+// numbers: then all four pixels bear weight, and neither the column nor the row is the last.
 fn rejecting_footprint(width: u32, height: u32, x: f64, y: f64) -> Footprint
     ensures { λ r. ⌜ r ≡ footprintOf width height Reject x y ⌝ }
 {
     if is_inside(width, height, x, y) {
+        match ieee_whole::split_between(x) {
+            Between::Wholes(across) => match ieee_whole::split_between(y) {
+                Between::Wholes(down) => {
+                    return Footprint::Cell {
+                        x0: across.whole,
+                        y0: down.whole,
+                        x1: across.whole + 1,
+                        y1: down.whole + 1,
+                        fx: across.left,
+                        fy: down.left,
+                    };
+                }
+                Between::Nothing => {}
+            },
+            Between::Nothing => {}
+        }
         return interior_cell(width, height, x, y);
     }
     Footprint::Rejected

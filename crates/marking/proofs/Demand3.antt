@@ -61,7 +61,7 @@ module _ (r : Request) (grid : List ℕ) where
   -- ---- what a call returns and leaves
 
   -- it returns what its run ends in
-  returned : (a : Call r grid) → a .answer ≡ result r (a .modules) (a .photograph)
+  pub returned : (a : Call r grid) → a .answer ≡ result r (a .modules) (a .photograph)
   unfolding refineMarking markingNumber
   returned a = rw (a .passes) at (a .ended .answer)
 
@@ -116,7 +116,7 @@ module _ (r : Request) (grid : List ℕ) where
   enters a = entered r (a .modules) (a .photograph) (length (a .sheet)) (length (a .copy)) (a .passes) .0
 
   -- so its size is within the limits
-  size : Call r grid → Sized (r .width) (r .height)
+  pub size : Call r grid → Sized (r .width) (r .height)
   size a = size-checked (r .width) (r .height) (photograph-passes r (a .modules) (a .photograph) (enters a) .0)
 
   -- what it reads lies in the picture

@@ -2,3 +2,4 @@
 pub mod Entered
 pub mod Calls
 pub mod Demand3
+pub mod AllFour

@@ -9,5 +9,6 @@ pub mod Sheets
 pub mod Meaning
 pub mod Bounds
 pub mod Demand3
+pub mod AllFour
 -- the definitions opened together
 pub mod Opened

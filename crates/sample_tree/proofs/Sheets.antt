@@ -7,6 +7,7 @@ use native.Mathlib.Nat.{not-suc-le-zero, le-of-suc-le-suc, zero-lt-suc, mod-lt, 
 use mathlib.Core.Bool.{Bool, true, false, _&&_, _||_, true≢false}
 use mathlib.Core.List.{List, [], _∷_, _++_}
 use lib.Dec.{T, eqb, eqb-refl}
+use lib.Ieee.Bits.{is-true}
 use lib.ListN.{getD, length, set, length-set, replicate, length-replicate, getD-replicate}
 use lib.Seq.{set-append-left, getD-set-same, getD-set-other, ext-getD}
 use borrow.Author.Tests.{eqb-true, eqb-false}
@@ -21,15 +22,14 @@ use Rattle.sample_tree.specs.Sheets.{isRead, sheet, copy}
 
 -- ---- whether a pixel is in a list
 
--- what holds of every pixel of the picture that is in a list holds of each of the list
-pub read-each : (P : Pixel → Type 0) (w h : ℕ) (cs : List Pixel) → Each (Inside w h) cs
-    → ((x y : ℕ) → x < w → y < h → T (isRead x y cs) → P (pixel x y)) → Each P cs
-read-each P w h [] b f = tt
-read-each P w h (c ∷ cs) b f = (
-  f (c .column) (c .row) (b .0 .across) (b .0 .down)
+-- what holds of every pixel that is in a list holds of each of the list
+pub listed : (P : Pixel → Type 0) (cs : List Pixel) → ((x y : ℕ) → T (isRead x y cs) → P (pixel x y)) → Each P cs
+listed P [] f = tt
+listed P (c ∷ cs) f = (
+  f (c .column) (c .row)
       (or-left (eqb (c .column) (c .column) && eqb (c .row) (c .row)) (isRead (c .column) (c .row) cs)
       (and-both (eqb (c .column) (c .column)) (eqb (c .row) (c .row)) (eqb-refl (c .column)) (eqb-refl (c .row)))),
-  read-each P w h cs (b .1) (λ x y hx hy r. f x y hx hy (or-right (eqb x (c .column) && eqb y (c .row)) (isRead x y cs) r)),
+  listed P cs (λ x y r. f x y (or-right (eqb x (c .column) && eqb y (c .row)) (isRead x y cs) r)),
 )
 
 -- what holds of each pixel of a list holds of one that is in it
@@ -42,6 +42,12 @@ each-read P x y (c ∷ cs) b r = go (eqb x (c .column)) refl (eqb y (c .row)) re
     go true es true et k rest = rw (eqb-true x (c .column) es, eqb-true y (c .row) et) (b .0)
     go true es false et k rest = rest k
     go false es t et k rest = rest k
+
+-- the first of them, where the list is of pixels of the picture
+pub read-each : (P : Pixel → Type 0) (w h : ℕ) (cs : List Pixel) → Each (Inside w h) cs
+    → ((x y : ℕ) → x < w → y < h → T (isRead x y cs) → P (pixel x y)) → Each P cs
+read-each P w h cs b f =
+    listed P cs (λ x y r. let i = each-read (Inside w h) x y cs b (is-true (isRead x y cs) r) in f x y (i .across) (i .down) r)
 
 -- ---- what they hold at a place
 

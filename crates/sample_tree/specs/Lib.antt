@@ -3,3 +3,4 @@ pub mod SampleTree
 pub mod Meters
 pub mod Run
 pub mod Sheets
+pub mod AllFour

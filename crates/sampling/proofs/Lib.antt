@@ -2,5 +2,6 @@
 pub mod Interpolation
 pub mod Answers
 pub mod Inside
+pub mod AllFour
 -- the definitions opened together
 pub mod Opened

@@ -22,11 +22,12 @@ use Rattle.sampling.specs.declared.LumaAnswer.{LumaAnswer}
 
 -- ---- what it reads there, and what it shows
 
--- the four pixels that a sample falls among
+-- the four pixels that a sample falls among; a footprint has only those that bear weight, some twice
 abbrev pub cellPixels : ℕ → ℕ → ℕ → ℕ → List Pixel
 cellPixels x0 y0 x1 y1 = pixel x0 y0 ∷ pixel x1 y0 ∷ pixel x0 y1 ∷ pixel x1 y1 ∷ []
 
--- the pixels that a sample reads: all four, also where a fraction is 0
+-- the pixels that a sample reads: those that bear weight, so that where the x fraction is 0 it reads
+-- none of the right column, and where the y fraction is 0 none of the lower row
 unfoldable pub pixelsRead : Footprint → List Pixel
 pixelsRead Rejected = []
 pixelsRead (Border v) = []
@@ -42,6 +43,7 @@ Ordered Rejected = Unit {0}
 Ordered (Border v) = Unit {0}
 Ordered (Cell x0 y0 x1 y1 fx fy) = (x0 ≤ x1) × (y0 ≤ y1)
 
+-- their blend; one that is not read has the byte beside it or above it in its place
 unfoldable pub bilinear : ℕ → ℕ → ℕ → ℕ → Float → Float → Float
 bilinear v00 v10 v01 v11 fx fy =
     let top = float v00 ⊕ (float v10 ⊖ float v00) ⊗ fx in

@@ -1,4 +1,5 @@
-//! The least that gives the Rust a marking run: in the marked build `Gray8View::get` also writes a 1 on a sheet.
+//! The least that gives the Rust a marking run: in the marked build `Gray8View::get` also writes a 1 on a sheet, and is
+//! asked for no pixel that bears no weight.
 //! One run at a time, on one thread, since nothing is locked.
 use crate::Gray8View;
 

@@ -1,4 +1,4 @@
-//! What the watched build sees of a run: which pixels it read, and marks that a run leaves on its way.
+//! What the watched build sees of a run: which pixels bore weight, and marks that a run leaves on its way.
 use std::cell::{Cell, RefCell};
 
 struct Sheet {
@@ -9,6 +9,8 @@ struct Sheet {
 
 thread_local! {
     static SHEET: RefCell<Option<Sheet>> = const { RefCell::new(None) };
+    /// Pixels beside or below a sample whose fraction there is 0.
+    pub static WEIGHTLESS: Cell<u64> = const { Cell::new(0) };
     /// Square roots of refine.rs.
     pub static ROOTS: Cell<u64> = const { Cell::new(0) };
     /// Whether the last line fit that was begun is an edge's second.
@@ -26,7 +28,7 @@ pub fn begin(width: usize, height: usize) {
     });
 }
 
-/// End the sheet: a 1 for each pixel that was read, and how many bytes were read in all.
+/// End the sheet: a 1 for each pixel that bore weight, and how many bytes that did were read in all.
 pub fn end() -> (Vec<u8>, u64) {
     SHEET.with(|s| {
         let sheet = s.borrow_mut().take().expect("a sheet was begun");
@@ -43,6 +45,12 @@ pub fn pixel(x: usize, y: usize) {
             sheet.reads += 1;
         }
     });
+}
+
+/// A sample has this byte beside or below it, and no weight for it.
+pub fn weightless(byte: u8) -> u8 {
+    WEIGHTLESS.with(|n| n.set(n.get() + 1));
+    byte
 }
 
 /// refine.rs takes a square root.

@@ -108,7 +108,7 @@ fn digest(bytes: impl Iterator<Item = u8>) -> u64 {
     bytes.fold(0xcbf2_9ce4_8422_2325, |h, b| (h ^ b as u64).wrapping_mul(0x100_0000_01b3))
 }
 
-/// How many pixels the Rust read, and digests of the mark sheet and the blanked copy that this makes; empty where an entry check refuses.
+/// How many pixels the Rust read that bore weight, and digests of the mark sheet and the blanked copy that this makes; empty where an entry check refuses.
 fn marks(job: &Job, seen: &Seen) -> String {
     if seen.sheet.is_empty() {
         return String::new();

@@ -97,6 +97,7 @@ struct Tally {
     by_way: BTreeMap<(u32, bool, String), u64>,
     by_family: BTreeMap<&'static str, u64>,
     unfinite: u64,
+    on_lattice: u64,
     panicked: u64,
     differed: u64,
 }
@@ -125,6 +126,7 @@ pub fn run(o: &Options) -> bool {
                 *t.by_number.entry(seen.outcome.number).or_default() += 1;
                 *t.by_way.entry((seen.outcome.number, job.camera.is_some(), way(&seen))).or_default() += 1;
                 t.unfinite += seen.outcome.corners.as_flattened().iter().any(|x| !x.is_finite()) as u64;
+                t.on_lattice += seen.on_lattice as u64;
                 difference(&job, &seen)
             }
         };
@@ -147,6 +149,7 @@ pub fn run(o: &Options) -> bool {
     }
     let numbers: Vec<String> = t.by_number.iter().map(|(n, k)| format!("{n}: {k}")).collect();
     let marks = if cfg!(port) { "sheets and copies compared" } else { "no port to compare with" };
+    println!("{} jobs had a sample whose x or y fraction is 0", t.on_lattice);
     println!("jobs {}; ended in {}; {marks}; the Rust panicked {}; differed {}", t.jobs, numbers.join(", "), t.panicked, t.differed);
     t.differed == 0
 }

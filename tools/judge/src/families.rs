@@ -8,7 +8,8 @@ type Family = (&'static str, u32, fn(&mut Rng) -> Job);
 
 /// Name, how often in a hundred or so, and how it is made.
 pub const FAMILIES: &[Family] = &[
-    ("label", 14, label),
+    ("label", 11, label),
+    ("lattice", 3, lattice),
     ("lens", 14, lens),
     ("faint", 8, faint),
     ("partial", 6, partial),
@@ -395,6 +396,52 @@ fn stripes(r: &mut Rng) -> Job {
         job.camera = None;
     }
     job
+}
+
+/// Upright labels with whole corners and modules of whole pixels, so that samples fall on columns and rows; half of
+/// their sides lie where a profile ends at the picture's first or last column or row.
+fn lattice(r: &mut Rng) -> Job {
+    let dim = r.pick(&[6, 7, 8, 10, 12, 21]);
+    let per = r.pick(&[2, 4, 4, 6, 8, 10, 20]).min(168 / dim / 2 * 2);
+    let margin = |r: &mut Rng| 3 * per / 2 + if r.chance(0.5) { 0 } else { 1 + r.below(6) as usize };
+    let [left, right, top, bottom] = [0; 4].map(|_| margin(r));
+    let side = dim * per;
+    let (w, h) = (left + side + right + 1, top + side + bottom + 1);
+    let modules = modules(r, dim);
+    let inverted = r.chance(0.5);
+    let (ink, paper) = if inverted { (220.0, 40.0) } else { (40.0, 220.0) };
+    let mut canvas = Canvas::new(w, h, paper);
+    let quad = [[left, top], [left + side, top], [left + side, top + side], [left, top + side]].map(|p| p.map(|v| v as f64));
+    Label { dim, modules: &modules, corners: quad, camera: None, ink, paper, quiet: 4.0 }.draw(&mut canvas, 2);
+    let times = r.below(3) as usize;
+    canvas.blur(times);
+    let noise = r.pick(&[0.0, 0.0, 2.0]);
+    let stride = stride(r, w);
+    let bytes = canvas.bytes(r, stride, noise);
+    let mut job = bare(r, w, h, bytes, stride, quad);
+    job.dim = dim as u32;
+    job.modules = modules;
+    job.inverted = inverted;
+    job.camera = r.chance(0.4).then(|| lattice_camera(r, &mut job.corners));
+    let scale = r.pick(&[1.0, 1.0, 0.5, 2.0]);
+    (job.sx, job.sy) = (scale, scale);
+    job.corners = job.corners.map(|p| p.map(|v| v * scale));
+    job
+}
+
+/// A camera without a lens: one that moves the picture by whole pixels, and these corners with it, or one under which
+/// an axis shrinks to nothing, so that what lies before its centre is seen at -0.
+fn lattice_camera(r: &mut Rng, corners: &mut [[f64; 2]; 4]) -> Camera {
+    let (mut source, mut rectified) = ([64.0, 64.0, 32.0, 16.0], [64.0, 64.0, 32.0, 16.0]);
+    if r.chance(0.5) {
+        let axis = r.below(2) as usize;
+        (source[axis], source[axis + 2], rectified[axis]) = (1e-200, -0.0, 1e200);
+        return Camera { source, rectified, lens: None };
+    }
+    let by = [r.int(-5, 5) as f64, r.int(-5, 5) as f64];
+    *corners = corners.map(|[x, y]| [x + by[0], y + by[1]]);
+    (rectified[2], rectified[3]) = (rectified[2] + by[0], rectified[3] + by[1]);
+    Camera { source, rectified, lens: None }
 }
 
 fn tiny(r: &mut Rng) -> Job {

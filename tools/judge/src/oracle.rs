@@ -11,8 +11,10 @@ pub use watched::refine::access::Outcome;
 /// What was seen of the Rust on a job.
 pub struct Seen {
     pub outcome: Outcome,
-    /// 1 for each pixel that was read; empty where an entry check refuses
+    /// 1 for each pixel that was read and bore weight; empty where an entry check refuses
     pub sheet: Vec<u8>,
+    /// whether a sample had an x or a y fraction of 0
+    pub on_lattice: bool,
     pub samples: u64,
     pub roots: u64,
     pub rounds: Vec<RoundEnd>,
@@ -44,6 +46,7 @@ pub fn judge(job: &Job) -> Result<Seen, String> {
         return Ok(Seen {
             outcome: Outcome { number, ..Outcome::default() },
             sheet: Vec::new(),
+            on_lattice: false,
             samples: 0,
             roots: 0,
             rounds: Vec::new(),
@@ -60,9 +63,12 @@ pub fn judge(job: &Job) -> Result<Seen, String> {
 
 fn seen(job: &Job, input: Input) -> Seen {
     let roots = access::roots();
+    let weightless = || watch::WEIGHTLESS.with(|n| n.get());
+    let before = weightless();
     watch::begin(job.width as usize, job.height as usize);
     let outcome = input.refine();
     let (sheet, _) = watch::end();
+    let on_lattice = weightless() > before;
     let roots = access::roots() - roots;
     let rounds = input.rounds();
     let samples = input.samples();
@@ -72,6 +78,7 @@ fn seen(job: &Job, input: Input) -> Seen {
     Seen {
         outcome,
         sheet,
+        on_lattice,
         samples,
         roots,
         rounds: rounds.iter().map(|r| r.0).collect(),
