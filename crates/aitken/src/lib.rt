@@ -1,4 +1,6 @@
 // refine.rs, `localize_edge_point`: where three passes tend.
+#![tactic(auto)]
+
 ghost use Rattle.std.specs.Prelude.{◌≡◌};
 ghost use Rattle.aitken.specs.Aitken.{
   aitken as aitken_of,
@@ -9,7 +11,7 @@ ghost use Rattle.aitken.specs.Aitken.{
 use pixel::{Direction, EdgePoint, SourcePixel};
 
 // What three passes come to: the third stands, or is moved along the normal, or nothing.
-#[derive(Drop)]
+#[derive(Clone, Copy)]
 pub enum Extrapolated {
     Converged,
     Shifted(f64),
@@ -17,7 +19,7 @@ pub enum Extrapolated {
 }
 
 // An edge point, or none.
-#[derive(Drop)]
+#[derive(Clone, Copy)]
 pub enum Located {
     Found(EdgePoint),
     NoEdge,

@@ -1,4 +1,6 @@
 // How the refinement calls for C and Rust write an answer into the buffers that they are lent.
+#![tactic(auto)]
+
 ghost use Rattle.std.specs.Prelude.{◌≡◌, set};
 ghost use Rattle.prelude.specs.Prelude.{bit as bit_of};
 ghost use Rattle.c_answers.specs.Answers.{with_corners, with_stat, with_stats, with_flags, Written};

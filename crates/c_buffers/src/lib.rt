@@ -1,4 +1,6 @@
 // How the calls for C and Rust write values into the buffers that they are lent. bindings/trufolmesca.h says what each buffer holds.
+#![tactic(auto)]
+
 ghost use Rattle.std.specs.Prelude.{◌≡◌, set};
 ghost use Rattle.c_buffers.specs.Buffers.{with_place, with_place_at, with_point, with_line, with_row, with_map};
 

@@ -1,5 +1,7 @@
 // The calls for C and Rust that look for an edge point, each over the lists and buffers that it is lent: `export` hands every
 // one on as it is.
+#![tactic(auto)]
+
 ghost use Rattle.std.specs.Prelude.{◌≡◌};
 ghost use Rattle.footprint.specs.declared.View.TheVariants.{Plain};
 ghost use Rattle.edge_point.specs.EdgePoint.{localize_edge_point};

@@ -1,4 +1,6 @@
 // The calls for C and Rust about lines, each over the lists and buffers that it is lent: `export` hands every one on as it is.
+#![tactic(auto)]
+
 ghost use Rattle.std.specs.Prelude.{◌≡◌};
 ghost use Rattle.line.specs.Line.{crossing, cross_answer};
 ghost use Rattle.line_fit.specs.LineFit.{fit_line, line_answer};

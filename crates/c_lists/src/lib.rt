@@ -1,4 +1,6 @@
 // What the calls for C and Rust read of the lists that they are lent. bindings/trufolmesca.h says what each list holds.
+#![tactic(auto)]
+
 ghost use Rattle.std.specs.Prelude.{◌≡◌};
 ghost use Rattle.c_lists.specs.Lent.{float_at, quad_of, working_of, map_of, line_of};
 

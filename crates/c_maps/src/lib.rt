@@ -1,4 +1,6 @@
 // The calls for C and Rust about maps, each over the lists and buffers that it is lent: `export` hands every one on as it is.
+#![tactic(auto)]
+
 ghost use Rattle.std.specs.Prelude.{◌≡◌};
 ghost use Rattle.homography.specs.Homography.{map_point, scaled as scaled_by, inverse as inverse_of, composed};
 ghost use Rattle.quad.specs.Quad.{square_to_quad, quad_to_quad, map_answer};

@@ -1,5 +1,7 @@
 // The marking calls for C and Rust, each over the lists and buffers that it is lent: `export` hands every one on as it is.
 // Sheet and copy are lent width × height bytes or more, in rows of width bytes.
+#![tactic(auto)]
+
 ghost use Rattle.footprint.specs.declared.View.TheVariants.{Plain};
 ghost use Rattle.request.specs.Requests.{photograph};
 ghost use Rattle.c_views.specs.Views.{view_of};

@@ -1,4 +1,6 @@
 // The refinement calls for C and Rust, each over the lists and buffers that it is lent: `export` hands every one on as it is.
+#![tactic(auto)]
+
 ghost use Rattle.footprint.specs.declared.View.TheVariants.{Plain};
 ghost use Rattle.request.specs.Requests.{photograph};
 ghost use Rattle.refine.specs.Refine.{refine};

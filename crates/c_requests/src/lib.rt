@@ -1,4 +1,6 @@
 // What a refinement call for C and Rust asks, by the numbers and lists that it is lent.
+#![tactic(auto)]
+
 ghost use Rattle.std.specs.Prelude.{◌≡◌};
 ghost use Rattle.c_requests.specs.Requests.{lent_request};
 

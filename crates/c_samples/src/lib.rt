@@ -1,5 +1,7 @@
 // The calls for C and Rust that sample a photograph or go through a camera, each over the lists and buffers that it is lent:
 // `export` hands every one on as it is.
+#![tactic(auto)]
+
 ghost use Rattle.std.specs.Prelude.{◌≡◌, set};
 ghost use Rattle.pixel.specs.Pixels.{source};
 ghost use Rattle.sampling.specs.Sampling.{sample_bilinear};

@@ -1,4 +1,6 @@
 // The camera, the view and the border that the calls for C and Rust are lent. bindings/trufolmesca.h says what each holds.
+#![tactic(auto)]
+
 ghost use Rattle.std.specs.Prelude.{◌≡◌};
 ghost use Rattle.c_views.specs.Views.{source_intrinsics, rectified_intrinsics, lens_of, camera_of, view_of, border_of};
 

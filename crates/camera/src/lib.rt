@@ -1,11 +1,13 @@
 // camera.rs: from a rectified place to the source picture, for no lens and for Brown-Conrady.
+#![tactic(auto)]
+
 ghost use Rattle.std.specs.Prelude.{◌≡◌};
 ghost use Rattle.camera.specs.Camera.{valid_intrinsics, valid_lens, valid_camera, same_intrinsics, is_none, is_identity, distorted, projected, if_finite, rectified_to_source, camera_answer};
 
 use pixel::SourcePixel;
 
 // Pinhole intrinsics in pixels, with integer pixel centres and zero skew.
-#[derive(Drop)]
+#[derive(Clone, Copy)]
 pub struct CameraIntrinsics {
     pub fx: f64,
     pub fy: f64,
@@ -14,7 +16,7 @@ pub struct CameraIntrinsics {
 }
 
 // The lens, on coordinates of the picture plane before the intrinsics.
-#[derive(Drop)]
+#[derive(Clone, Copy)]
 pub enum LensDistortion {
     None,
     BrownConrady {
@@ -27,7 +29,7 @@ pub enum LensDistortion {
 }
 
 // The source picture's intrinsics, those of the rectified picture, and the lens.
-#[derive(Drop)]
+#[derive(Clone, Copy)]
 pub struct CameraCalibration {
     pub intrinsics: CameraIntrinsics,
     pub rectified: CameraIntrinsics,
@@ -35,18 +37,18 @@ pub struct CameraCalibration {
 }
 
 // A place on the picture plane, before the intrinsics.
-#[derive(Drop)]
+#[derive(Clone, Copy)]
 pub struct Normalized(pub f64, pub f64);
 
 // Where a rectified place lies in the source picture.
-#[derive(Drop)]
+#[derive(Clone, Copy)]
 pub enum SourcePoint {
     At(SourcePixel),
     Nowhere,
 }
 
 // What `rectified_to_source` returns: a number of document 01, and the place or zeros.
-#[derive(Drop)]
+#[derive(Clone, Copy)]
 pub struct PlaceAnswer {
     pub number: u32,
     pub place: SourcePixel,

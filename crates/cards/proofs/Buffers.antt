@@ -1,7 +1,7 @@
 -- What a job card run into a buffer returns and leaves there, for each way out of the call: the buffer is too short, the job is refused, or it is
 -- answered. A malformed card needs no way of its own: its job is refused with the same number as a short buffer. Assumes nothing.
 use Prim.Native.Nat.{ℕ, ◌≤◌, ◌<◌}
-use mathlib.Core.Bool.{false, and_false}
+use mathlib.Core.Bool.{false, and-false}
 use mathlib.Core.Path.{◌≡◌, sym, ap, ◌∙◌}
 use mathlib.Core.List.{List}
 use borrow.Author.Tests.{le-leb, lt-leb, eq-eqb, ne_eqb}
@@ -21,7 +21,7 @@ malformed card bad = rw bad
 module _ (card out : List ℕ) where
   pub too_short : length out < 93 → (number.card ≡ run_number card out) × (out ≡ run_leaves card out)
   unfolding run_number run_leaves
-  too_short short = (rw (lt-leb 93 (length out) short, and_false), rw (lt-leb 93 (length out) short, and_false))
+  too_short short = (rw (lt-leb 93 (length out) short, and-false), rw (lt-leb 93 (length out) short, and-false))
 
   module _ (max_edge_points : 93 ≤ length out) (a : Answer) (is : a ≡ job_answer card) where
     job-number : a.number ≡ run_number card out

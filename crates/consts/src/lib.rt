@@ -1,8 +1,10 @@
 // consts.rs: the numbers of the refinement, in one record that goes by value.
+#![tactic(auto)]
+
 ghost use Rattle.std.specs.Prelude.{◌≡◌};
 ghost use Rattle.consts.specs.Consts.{defaults as the_defaults};
 
-#[derive(Drop)]
+#[derive(Clone, Copy)]
 pub struct Settings {
     // Where in a dark border module its two probes stand: inside it, one to each side of its middle.
     pub probe_fraction_first: f64,

@@ -1,4 +1,6 @@
 // refine.rs, what the edges of a round come to: the corners where they cross, or the round's refusal.
+#![tactic(auto)]
+
 ghost use Rattle.std.specs.Prelude.{◌≡◌, ◌≤◌, ◌<◌};
 ghost use Rattle.corners.specs.Corners.{
   crossed_at,
@@ -17,7 +19,7 @@ use pixel::SourcePixel;
 
 // Four corners in source pixels, or with a camera in rectified pixels; what is counted of the four edges, and which
 // corners were refined.
-#[derive(Drop)]
+#[derive(Clone, Copy)]
 pub struct RefinedCorners {
     pub corners: [SourcePixel; 4],
     pub edge_stats: [EdgeStat; 4],
@@ -25,7 +27,7 @@ pub struct RefinedCorners {
 }
 
 // What a refinement returns: a number of document 01, and the corners or zeros.
-#[derive(Drop)]
+#[derive(Clone, Copy)]
 pub struct Answer {
     pub number: u32,
     pub refined: RefinedCorners,

@@ -1,4 +1,6 @@
 // refine.rs, one edge of a round: its probes, the points that they find, and the line through those.
+#![tactic(auto)]
+
 ghost use Rattle.std.specs.Prelude.{◌≡◌, [], ◌≤◌, length};
 ghost use Rattle.consts.specs.Consts.{max_edge_points};
 ghost use Rattle.photograph.specs.Photographs.{photo};
@@ -18,7 +20,7 @@ use profile::Localized;
 use sample_tree::Meter;
 
 // What all of a run shares: how its photograph lies and is seen, and the plan.
-#[derive(Drop)]
+#[derive(Clone, Copy)]
 pub struct Task {
     pub scene: Scene,
     pub stride: u32,
@@ -26,21 +28,21 @@ pub struct Task {
 }
 
 // An edge's end, and what sampling carries along.
-#[derive(Drop)]
+#[derive(Clone, Copy)]
 pub struct EdgeRun {
     pub fit: EdgeFit,
     pub meter: Meter,
 }
 
 // How many points were found, and what sampling carries along.
-#[derive(Drop)]
+#[derive(Clone, Copy)]
 struct Found {
     count: usize,
     meter: Meter,
 }
 
 // A side with the probes that are to find its points.
-#[derive(Drop)]
+#[derive(Clone, Copy)]
 struct Search {
     task: Task,
     side: Side,

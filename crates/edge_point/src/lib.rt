@@ -1,4 +1,6 @@
 // refine.rs, `localize_edge_point` as a call: checks 1, 2 and 6, then the point, or 19 without one.
+#![tactic(auto)]
+
 ghost use Rattle.std.specs.Prelude.{◌≡◌};
 ghost use Rattle.edge_point.specs.EdgePoint.{localize_edge_point, no_point, view_number};
 
@@ -9,7 +11,7 @@ use profile::Ray;
 use sample_tree::Meter;
 
 // What `localize_edge_point` returns: a number of document 01, and the point or zeros.
-#[derive(Drop)]
+#[derive(Clone, Copy)]
 pub struct PointAnswer {
     pub number: u32,
     pub point: EdgePoint,

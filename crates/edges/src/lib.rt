@@ -1,4 +1,6 @@
 // refine.rs, what was found of a round's four edges so far: their lines and counts, or the refusal of one.
+#![tactic(auto)]
+
 ghost use Rattle.std.specs.Prelude.{◌≡◌, set as set_at};
 ghost use Rattle.line.specs.Line.{zero_line};
 ghost use Rattle.edges.specs.Edges.{with_edge, no_edges, no_stat};
@@ -9,7 +11,7 @@ use pixel::{Direction, SourcePixel};
 
 // The edges of a round so far, and the number of one that ended it. An edge that is not valid has the
 // zero line.
-#[derive(Drop)]
+#[derive(Clone, Copy)]
 pub struct Edges {
     pub number: u32,
     pub lines: [Line2; 4],

@@ -1,4 +1,6 @@
 // The calls for programs in C and Rust: numbers, slices as pointer and length, and answers into buffers
 // that the caller lends. bindings/trufolmesca.h says what each list holds.
+#![tactic(auto)]
+
 mod calls; // calls.rt: the refinement calls
 mod leaf_calls; // leaf_calls.rt: the leaf calls

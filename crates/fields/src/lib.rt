@@ -1,4 +1,6 @@
 // Numbers and floats in the bytes of a card, the lowest byte first; bytes past the end of a slice are 0.
+#![tactic(auto)]
+
 ghost use Rattle.std.specs.Prelude.{◌≡◌, ◌+◌, ◌≤◌, ◌<◌, ◌^◌, min};
 ghost use Rattle.fields.specs.Fields.{byte_at, number_at, float_at};
 

@@ -1,4 +1,6 @@
 // `fit` for programs in C: tools/judge holds an edge's fit against the Rust's, and bench/fit times it.
+#![tactic(auto)]
+
 ghost use Rattle.std.specs.Prelude.{◌≡◌};
 ghost use Rattle.c_buffers.specs.Buffers.{with_line};
 ghost use Rattle.c_answers.specs.Answers.{with_stat};

@@ -1,4 +1,6 @@
 // Tests of all the floats of a list, and their sum.
+#![tactic(auto)]
+
 ghost use Rattle.std.specs.Prelude.{◌≡◌, not, length};
 ghost use Rattle.ieee.specs.Floats.{◌≺◌, f0};
 ghost use Rattle.float_lists.specs.Sums.{at, sum_to, all_to, finite_to};

@@ -3,7 +3,7 @@
 use mathlib.Core.Path.{◌≡◌, refl, sym, ap, ◌∙◌}
 use Prim.Native.Nat.{ℕ, ◌+◌, ◌-◌, ◌^◌, ◌<◌, min}
 use native.Mathlib.Omega.{arith}
-use mathlib.Core.Bool.{Bool, true, false, not, ◌&&◌, ◌||◌, and_false, true≢false}
+use mathlib.Core.Bool.{Bool, true, false, not, ◌&&◌, ◌||◌, and-false, true≢false}
 use lib.Ieee.{Float, of_bits}
 use borrow.Author.Tests.{not-true, not-false}
 use Rattle.prelude.proofs.Tests.{both}
@@ -63,7 +63,7 @@ gathered true true false true true d = refl
 gathered true true false true false d = refl
 gathered true true false false true d = refl
 gathered true true false false false d = refl
-gathered true false a b c d = and_false (true && not a && not c)
+gathered true false a b c d = and-false (true && not a && not c)
 gathered false g a b c d = refl
 
 module _ (w h : ℕ) (wide : w < 2 ^ 32) (high : h < 2 ^ 32) (x y : Float) where

@@ -1,4 +1,6 @@
 // sampling.rs and sample.rs: where a sample falls, worked out without the photograph.
+#![tactic(auto)]
+
 ghost use Rattle.std.specs.Prelude.{◌≡◌, ℕ, ◌+◌, ◌-◌, min, ◌&&◌, not};
 ghost use Rattle.ieee.specs.Parts.{is_finite};
 ghost use Rattle.camera.specs.Camera.{rectified_to_source};
@@ -10,7 +12,7 @@ use ieee_whole::Between;
 use pixel::SourcePixel;
 
 // Behaviour outside the pixels' centres.
-#[derive(Drop)]
+#[derive(Clone, Copy)]
 pub enum BorderMode {
     // No sample.
     Reject,
@@ -22,7 +24,7 @@ pub enum BorderMode {
 
 // Where a sample falls: nowhere, on the constant border, or among four pixels. Where a fraction is 0
 // the right column is the left one, or the lower row the upper one.
-#[derive(Drop)]
+#[derive(Clone, Copy)]
 pub enum Footprint {
     Rejected,
     Border(u8),
@@ -37,14 +39,14 @@ pub enum Footprint {
 }
 
 // A photograph as it is, or through a camera.
-#[derive(Drop)]
+#[derive(Clone, Copy)]
 pub enum View {
     Plain,
     Calibrated(CameraCalibration),
 }
 
 // What all samples of a run share: the photograph's size, and the camera.
-#[derive(Drop)]
+#[derive(Clone, Copy)]
 pub struct Scene {
     pub width: u32,
     pub height: u32,

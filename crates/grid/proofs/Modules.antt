@@ -4,7 +4,7 @@ use Prim.Native.Nat.{ℕ, ◌+◌, ◌-◌, ◌≤◌, ◌<◌}
 use native.Mathlib.Nat.{sub-zero, le_trans}
 use native.Mathlib.Numerals.{add-one}
 use native.Mathlib.Omega.{arith}
-use mathlib.Core.Bool.{Bool, true, false, ◌&&◌, and_false, and_true, and_assoc}
+use mathlib.Core.Bool.{Bool, true, false, ◌&&◌, and-false, and-true, and_assoc}
 use mathlib.Core.List.{List}
 use lib.Dec.{leb}
 use lib.ListN.{length, get_or, drop}
@@ -33,7 +33,7 @@ larger_bits a b le = go (leb b 1) refl
   where
     go : (t : Bool) → leb b 1 ≡ t → t ≡ (leb a 1 && t)
     go true e = sym (rw (le-leb a 1 (le_trans le (leb-true b 1 e))))
-    go false e = sym (and_false (leb a 1))
+    go false e = sym (and-false (leb a 1))
 
 -- a loop that keeps the largest so far: a turn, and the end
 pub bits_further : (n i most next : ℕ) (ms : List ℕ) → i < n → n ≤ length ms → leb next 1 ≡ (leb most 1 && leb (get_or ms i 0) 1)
@@ -45,4 +45,4 @@ bits_further n i most next ms p q larger so_far =
     ∙ ap (λ (t : Bool). t && bits (n - (i + 1)) (drop (i + 1) ms)) (sym larger)
 
 pub bits-all : (n i most : ℕ) (ms : List ℕ) → n ≤ i → bits n ms ≡ (leb most 1 && bits (n - i) (drop i ms)) → leb most 1 ≡ bits n ms
-bits-all n i most ms p so_far = sym (so_far ∙ ap (λ (t : Bool). leb most 1 && t) (bits-end n i ms p) ∙ and_true (leb most 1))
+bits-all n i most ms p so_far = sym (so_far ∙ ap (λ (t : Bool). leb most 1 && t) (bits-end n i ms p) ∙ and-true (leb most 1))

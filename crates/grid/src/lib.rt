@@ -1,4 +1,6 @@
 // bitmatrix.rs, `get`: the modules of a label, and which of them are refused on entry.
+#![tactic(auto)]
+
 ghost use Rattle.std.specs.Prelude.{◌≡◌, ◌≤◌, ◌&&◌, leb, length};
 ghost use Rattle.grid.specs.Grids.{grid_of, bits, good_grid};
 

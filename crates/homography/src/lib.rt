@@ -1,11 +1,13 @@
 // homography.rs: a map of the label, where it sends a point, and the maps that are made of maps.
+#![tactic(auto)]
+
 ghost use Rattle.std.specs.Prelude.{◌≡◌};
 ghost use Rattle.homography.specs.Homography.{composed, dot, inverse, map_point, scaled};
 
 use pixel::SourcePixel;
 
 // (u, v) goes to ((a11 u + a21 v + a31) / w, (a12 u + a22 v + a32) / w), w = a13 u + a23 v + a33.
-#[derive(Drop)]
+#[derive(Clone, Copy)]
 pub struct PerspectiveTransform {
     pub a11: f64,
     pub a21: f64,
@@ -19,7 +21,7 @@ pub struct PerspectiveTransform {
 }
 
 // A column of a map's matrix.
-#[derive(Drop)]
+#[derive(Clone, Copy)]
 struct Column(f64, f64, f64);
 
 impl PerspectiveTransform {

@@ -1,5 +1,7 @@
 // IEEE 754's binary64, worked out from bit patterns. A value is the logic's `Float` (specs/), of which
 // each contract names the definition that its result equals. No function asks anything of its caller.
+#![tactic(auto)]
+
 ghost use Rattle.std.specs.Prelude.{◌≡◌, ◌&&◌};
 ghost use Rattle.std.specs.Float.{binary64};
 ghost use Rattle.std.specs.Float.Ieee.{to_bits, of_bits};

@@ -1,4 +1,6 @@
 // `ieee` for programs in C: bench/ieee times it.
+#![tactic(auto)]
+
 ghost use Rattle.std.specs.Prelude.{◌≡◌};
 ghost use Rattle.std.specs.Float.{binary64};
 ghost use Rattle.std.specs.Float.Ieee.{to_bits, of_bits, to_unsigned};

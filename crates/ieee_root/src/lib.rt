@@ -1,5 +1,7 @@
 // The square root of binary64: a number of 53 binary digits has its root guessed, tested on whole numbers,
 // and worked out by its digits where the test refuses the guess.
+#![tactic(auto)]
+
 ghost use Rattle.std.specs.Prelude.{◌≡◌, ◌+◌, ◌*◌, ◌^◌, ◌≤◌, ◌<◌};
 ghost use Rattle.std.specs.Float.{binary64};
 ghost use Rattle.ieee_root.specs.Root.{root, root_units, NearRoot};

@@ -1,19 +1,21 @@
 // The whole part of a binary64 value: floor, ceiling and `as u32`, worked out from bit patterns. No function asks
 // anything of its caller.
+#![tactic(auto)]
+
 ghost use Rattle.std.specs.Prelude.{◌≡◌, true};
 ghost use Rattle.std.specs.Float.Ieee.{to_unsigned};
 ghost use Rattle.ieee.specs.Floats.{f0, ◌≼◌};
 ghost use Rattle.ieee_whole.specs.Whole.{floor_of, ceil_of, split_whole, if_between, split_between};
 
 // A value's whole part, and what is left of it: its fraction, where the value is in the range of the whole part.
-#[derive(Drop)]
+#[derive(Clone, Copy)]
 pub struct Split {
     pub whole: u32,
     pub left: f64,
 }
 
 // Where a value lies: between two neighbouring whole numbers, and then how it is split, or elsewhere.
-#[derive(Drop)]
+#[derive(Clone, Copy)]
 pub enum Between {
     Wholes(Split),
     Nothing,

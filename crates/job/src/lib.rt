@@ -1,4 +1,6 @@
 // What a job card asks for: the fields of the card as a request, with its modules and the stride of its photograph.
+#![tactic(auto)]
+
 ghost use Rattle.std.specs.Prelude.{◌≡◌, ◌<◌, drop};
 ghost use Rattle.job.specs.Job.{
   working_at,

@@ -1,4 +1,6 @@
 // The job card: whether it is well formed, where its fields lie, and their contents.
+#![tactic(auto)]
+
 ghost use Rattle.std.specs.Prelude.{◌≡◌, [], ◌≤◌, length};
 ghost use Rattle.prelude.specs.Prelude.{if◌then◌else◌};
 ghost use Rattle.job_card.specs.JobCard.{start_at, start_of, contents, is_lens, suits, has_field, has_fields, has_exactly, well_formed, field_number, field_part};
@@ -9,7 +11,7 @@ use fields::number_at;
 const LONGEST: usize = 65535;
 
 // Where a field, or a row of fields, ends; nowhere if one of them is not there.
-#[derive(Drop)]
+#[derive(Clone, Copy)]
 enum FieldEnd {
     At(usize),
     Nowhere,

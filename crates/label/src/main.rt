@@ -1,9 +1,11 @@
 // Reads a job card on standard input, refines the label's corners, and prints the answer's lines.
+#![tactic(auto)]
+
 ghost use Rattle.std.specs.Prelude.{◌≤◌, ◌≡◌, length};
 ghost use Rattle.io.specs.Counts.{IsPrefixLen};
 
 // How many bytes there are, and whether the read behind them failed, which is not the input's end.
-#[derive(Drop)]
+#[derive(Clone, Copy)]
 struct Input {
     count: usize,
     failed: bool,

@@ -1,4 +1,6 @@
 // line.rs: a line, and the crossing of two lines.
+#![tactic(auto)]
+
 ghost use Rattle.std.specs.Prelude.{◌≡◌};
 ghost use Rattle.line.specs.Line.{crossing, cross_answer};
 
@@ -8,21 +10,21 @@ use pixel::{Direction, SourcePixel};
 const PARALLEL_CROSS: f64 = 1e-9;
 
 // A line: the points' weighted centroid, and the unit direction.
-#[derive(Drop)]
+#[derive(Clone, Copy)]
 pub struct Line2 {
     pub centroid: SourcePixel,
     pub dir: Direction,
 }
 
 // Where two lines cross, if they do.
-#[derive(Drop)]
+#[derive(Clone, Copy)]
 pub enum Crossing {
     At(SourcePixel),
     Parallel,
 }
 
 // What the crossing returns: a number of document 01, and the place or zeros.
-#[derive(Drop)]
+#[derive(Clone, Copy)]
 pub struct CrossAnswer {
     pub number: u32,
     pub place: SourcePixel,

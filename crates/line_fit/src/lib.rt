@@ -1,4 +1,6 @@
 // line.rs: the weighted total-least-squares line through points.
+#![tactic(auto)]
+
 ghost use Rattle.std.specs.Prelude.{◌≡◌, length};
 ghost use Rattle.ieee.specs.Floats.{◌⊗◌};
 ghost use Rattle.float_lists.specs.Sums.{at, sum_to};
@@ -20,7 +22,7 @@ use pixel::{Direction, SourcePixel};
 const EPSILON: f64 = 2.220446049250313e-16;
 
 // The scatter of points around their centroid.
-#[derive(Drop)]
+#[derive(Clone, Copy)]
 pub struct Moments {
     pub sxx: f64,
     pub sxy: f64,
@@ -28,14 +30,14 @@ pub struct Moments {
 }
 
 // A fitted line, or the number of its refusal.
-#[derive(Drop)]
+#[derive(Clone, Copy)]
 pub enum Fitted {
     Along(Line2),
     Refused(u32),
 }
 
 // What the line fit returns: a number of document 01, and the line or zeros.
-#[derive(Drop)]
+#[derive(Clone, Copy)]
 pub struct LineAnswer {
     pub number: u32,
     pub line: Line2,

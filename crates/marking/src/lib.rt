@@ -1,4 +1,6 @@
 // The marking calls: a refinement that also writes which pixels it read, and a copy of the photograph with all others blanked.
+#![tactic(auto)]
+
 ghost use Rattle.photograph.specs.Photographs.{photo};
 ghost use Rattle.request.specs.Requests.{photograph, plain, scene_of};
 ghost use Rattle.refine.specs.Refine.{refinement};

@@ -1,4 +1,5 @@
 // What a refusal says: the numbers of document 01, each under its word there.
+#![tactic(auto)]
 
 // An answer.
 pub const ANSWER: u32 = 0;

@@ -1,4 +1,6 @@
 // refine.rs, `localize_edge_point_pass` without its samples: the peak of a profile.
+#![tactic(auto)]
+
 ghost use Rattle.std.specs.Prelude.{◌≡◌};
 ghost use Rattle.peak.specs.Peak.{
   above_contrast_floor,
@@ -12,14 +14,14 @@ ghost use Rattle.peak.specs.Peak.{
 use consts::Settings;
 
 // The peak of a profile: its offset in samples, and its weight.
-#[derive(Drop)]
+#[derive(Clone, Copy)]
 pub enum Peaked {
     Peak(f64, f64),
     NoPeak,
 }
 
 // The gradients of a profile that a peak can need.
-#[derive(Drop)]
+#[derive(Clone, Copy)]
 pub struct Gradients {
     pub g1: f64,
     pub g2: f64,

@@ -1,4 +1,6 @@
 // A photograph's bytes: where a pixel lies among them, and which photographs are refused by 1 and 2.
+#![tactic(auto)]
+
 ghost use Rattle.std.specs.Prelude.{◌≡◌, ◌+◌, ◌-◌, ◌*◌, get_or};
 ghost use Rattle.photograph.specs.Photographs.{photo, sized as sized_by, good_size, good_photograph, photograph_number};
 

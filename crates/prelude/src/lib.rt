@@ -1,4 +1,6 @@
 // What every crate above shares and the Rust has from its own library.
+#![tactic(auto)]
+
 ghost use Rattle.std.specs.Prelude.{◌≡◌, ◌≤◌};
 ghost use Rattle.prelude.specs.Prelude.{bit as bit_of};
 

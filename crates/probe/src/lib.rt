@@ -1,4 +1,6 @@
 // refine.rs, where a probe of an edge looks.
+#![tactic(auto)]
+
 ghost use Rattle.std.specs.Prelude.{◌≡◌};
 ghost use Rattle.probe.specs.Probe.{point_on_side, probe_ray};
 
@@ -9,7 +11,7 @@ use probes::Probe;
 use profile::Ray;
 
 // What a refinement goes by: the settings, and the label's side in modules and its polarity.
-#[derive(Drop)]
+#[derive(Clone, Copy)]
 pub struct Plan {
     pub settings: Settings,
     pub dim: u32,
@@ -18,7 +20,7 @@ pub struct Plan {
 
 // One side of the label in a round: the round's map, which edge it is (0 top, 1 right, 2 bottom, 3 left), and the
 // corners that it joins.
-#[derive(Drop)]
+#[derive(Clone, Copy)]
 pub struct Side {
     pub map: PerspectiveTransform,
     pub edge: u32,
@@ -27,7 +29,7 @@ pub struct Side {
 }
 
 // Where a probe looks: the length of its local module, and the ray there.
-#[derive(Drop)]
+#[derive(Clone, Copy)]
 pub struct ProbeRay {
     pub perp_module_px: f64,
     pub ray: Ray,

@@ -1,4 +1,6 @@
 // refine.rs, the selection of probes: which places of an edge are probed.
+#![tactic(auto)]
+
 ghost use Rattle.std.specs.Prelude.{◌≡◌, ◌+◌, ◌-◌, ◌*◌, ◌≤◌, ◌<◌, min, length};
 ghost use Rattle.consts.specs.Consts.{max_edge_points};
 ghost use Rattle.grid.specs.Grids.{grid_of};
@@ -8,14 +10,14 @@ ghost use Rattle.probes.specs.Places.{dark_at, start_of, stride_of, layout_of, I
 use consts::{MAX_EDGE_POINTS, Settings};
 
 // A probe of an edge: how far along it, from 0 to 1, and whether the module behind it is light.
-#[derive(Drop)]
+#[derive(Clone, Copy)]
 pub struct Probe {
     pub t: f64,
     pub inward_differs: bool,
 }
 
 // The probes of an edge: the first `count` of the array.
-#[derive(Drop)]
+#[derive(Clone, Copy)]
 pub struct Probes {
     pub count: usize,
     pub probes: [Probe; MAX_EDGE_POINTS],
@@ -23,7 +25,7 @@ pub struct Probes {
 
 // An edge of a label, 0 the top, 1 right, 2 bottom, else left. Found once for all its modules: where the
 // first one and the one behind that lie, and how far apart the next ones.
-#[derive(Drop)]
+#[derive(Clone, Copy)]
 struct EdgeLayout {
     dim: u32,
     edge: u32,

@@ -1,5 +1,7 @@
 // refine.rs, `localize_edge_point`: seven samples along a normal, the peak of their gradients, three
 // passes, and where those tend.
+#![tactic(auto)]
+
 ghost use Rattle.std.specs.Prelude.{◌≡◌};
 ghost use Rattle.photograph.specs.Photographs.{photo};
 ghost use Rattle.sample_tree.specs.Run.{state, sampler, Runs};
@@ -20,7 +22,7 @@ const PASSES: usize = 3;
 const SAMPLES: u32 = 7;
 
 // An edge point, and what sampling carries along.
-#[derive(Drop)]
+#[derive(Clone, Copy)]
 pub struct Localized {
     pub located: Located,
     pub meter: Meter,
@@ -28,7 +30,7 @@ pub struct Localized {
 
 // Where an edge point is looked for: around a coarse place, along a normal, by steps of half a module; and
 // what lies there: the label's polarity, and whether the module behind the edge is light.
-#[derive(Drop)]
+#[derive(Clone, Copy)]
 pub struct Ray {
     pub coarse: SourcePixel,
     pub normal: Direction,

@@ -1,4 +1,6 @@
 // homography.rs: the map of the unit square to four corners, and of four corners to four others.
+#![tactic(auto)]
+
 ghost use Rattle.std.specs.Prelude.{◌≡◌};
 ghost use Rattle.quad.specs.Quad.{affine, joined, map_answer, projective, quad_to_quad, square_to_quad};
 
@@ -6,14 +8,14 @@ use homography::PerspectiveTransform;
 use pixel::SourcePixel;
 
 // The map of four corners, where they have one.
-#[derive(Drop)]
+#[derive(Clone, Copy)]
 pub enum Mapped {
     By(PerspectiveTransform),
     NoMap,
 }
 
 // What a quad call returns: a number of document 01, and the map or zeros.
-#[derive(Drop)]
+#[derive(Clone, Copy)]
 pub struct MapAnswer {
     pub number: u32,
     pub map: PerspectiveTransform,

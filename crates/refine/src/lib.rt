@@ -1,4 +1,6 @@
 // refine.rs, `refine_corners` and `refine_corners_mapped`: the entry checks, and the rounds behind them.
+#![tactic(auto)]
+
 ghost use Rattle.std.specs.Prelude.{◌≡◌, ◌*◌, min};
 ghost use Rattle.photograph.specs.Photographs.{photo};
 ghost use Rattle.sample_tree.specs.Run.{state, sampler, Runs};

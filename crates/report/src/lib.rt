@@ -1,4 +1,6 @@
 // The lines that are printed of an answer, as text in a buffer.
+#![tactic(auto)]
+
 ghost use Rattle.io.specs.Counts.{IsPrefixLen};
 ghost use Rattle.text.specs.Puts.{PutsWithin};
 ghost use Rattle.report.specs.Lines.{

@@ -1,5 +1,7 @@
 // refine.rs, what `refine_corners` and `refine_corners_mapped` are asked: the request, the division of its corners, and
 // the entry checks, 1 to 6.
+#![tactic(auto)]
+
 ghost use Rattle.std.specs.Prelude.{◌≡◌, ◌*◌, ◌&&◌};
 ghost use Rattle.request.specs.Requests.{
   all_within_bounds,
@@ -18,7 +20,7 @@ use pixel::{SourcePixel, WorkingPixel};
 // All of a refinement but the pixels and the modules: the photograph's size, the label's side in modules, how many
 // working pixels there are for a source pixel or with a camera for a rectified one, its corners in working pixels, its
 // polarity, the camera, and the settings.
-#[derive(Drop)]
+#[derive(Clone, Copy)]
 pub struct Request {
     pub width: u32,
     pub height: u32,

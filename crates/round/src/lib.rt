@@ -1,4 +1,6 @@
 // refine.rs, `refine_round`.
+#![tactic(auto)]
+
 ghost use Rattle.std.specs.Prelude.{◌≡◌, ◌<◌};
 ghost use Rattle.photograph.specs.Photographs.{photo};
 ghost use Rattle.sample_tree.specs.Run.{state, sampler, Runs};
@@ -15,14 +17,14 @@ use quad::Mapped;
 use sample_tree::Meter;
 
 // The edges of a round, and what sampling carries along.
-#[derive(Drop)]
+#[derive(Clone, Copy)]
 pub struct EdgesRun {
     pub edges: Edges,
     pub meter: Meter,
 }
 
 // A round's end, and what sampling carries along.
-#[derive(Drop)]
+#[derive(Clone, Copy)]
 pub struct RoundResult {
     pub answer: Answer,
     pub meter: Meter,

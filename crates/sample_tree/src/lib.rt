@@ -1,4 +1,6 @@
 // A sample of the refinement: through the camera, its pixels marked and copied, and counted.
+#![tactic(auto)]
+
 ghost use Rattle.std.specs.Prelude.{◌≡◌};
 ghost use Rattle.photograph.specs.Photographs.{photo};
 ghost use Rattle.sample_tree.specs.Meters.{increment};
@@ -10,13 +12,13 @@ use pixel::SourcePixel;
 use sampling::Sampled;
 
 // What sampling carries along: how many samples were tried.
-#[derive(Drop)]
+#[derive(Clone, Copy)]
 pub struct Meter {
     pub tried: u64,
 }
 
 // What a sample shows, and what sampling carries along.
-#[derive(Drop)]
+#[derive(Clone, Copy)]
 pub struct SampleResult {
     pub sampled: Sampled,
     pub meter: Meter,

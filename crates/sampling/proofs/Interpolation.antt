@@ -4,7 +4,7 @@ use mathlib.Core.Path.{◌≡◌, refl, sym, ap, ◌∙◌}
 use Prim.Native.Nat.{ℕ, ◌+◌, ◌*◌, ◌≤◌, ◌<◌}
 use native.Mathlib.Nat.{mul-le-mul_right}
 use native.Mathlib.Omega.{arith}
-use mathlib.Core.Bool.{false, and_false}
+use mathlib.Core.Bool.{false, and-false}
 use mathlib.Core.List.{List}
 use lib.Dec.{ltb}
 use lib.ListN.{length}
@@ -36,7 +36,7 @@ module _ (w x0 y0 x1 y1 : ℕ) (v : CellBytes) (s c : List ℕ) {i : ℕ} (last 
 
   pub short_copy : length c ≤ i → buffers s c ≡ cell_marked w x0 y0 x1 y1 v (buffers s c)
   unfolding cell_marked
-  short_copy h = rw (← last, le-ltb i (length c) h, and_false (ltb i (length s)), cell_marked)
+  short_copy h = rw (← last, le-ltb i (length c) h, and-false (ltb i (length s)), cell_marked)
 
   pub both_reach : i < length s → i < length c → {s' c' : List ℕ} → s' ≡ written w x0 y0 x1 y1 ones s → c' ≡ written w x0 y0 x1 y1 v c
       → buffers s' c' ≡ cell_marked w x0 y0 x1 y1 v (buffers s c)

@@ -1,5 +1,7 @@
 // sampling.rs: what a sample shows where it falls. The pixels that it reads are marked on a sheet and
 // copied; where neither is wanted, two empty slices are lent.
+#![tactic(auto)]
+
 ghost use Rattle.std.specs.Prelude.{◌≡◌, ◌+◌, ◌*◌, ◌<◌, ◌≤◌, length};
 ghost use Rattle.photograph.specs.Photographs.{photo};
 ghost use Rattle.footprint.specs.Footprints.{scene_footprint};
@@ -10,7 +12,7 @@ use footprint::{BorderMode, Footprint, Scene};
 use pixel::SourcePixel;
 
 // The bytes of the four pixels that a sample falls among.
-#[derive(Drop)]
+#[derive(Clone, Copy)]
 pub struct CellBytes {
     pub v00: u8,
     pub v10: u8,
@@ -19,14 +21,14 @@ pub struct CellBytes {
 }
 
 // What a sample shows.
-#[derive(Drop)]
+#[derive(Clone, Copy)]
 pub enum Sampled {
     Luma(f64),
     Outside,
 }
 
 // What `sample_bilinear` returns: a number of document 01, and the value or 0.
-#[derive(Drop)]
+#[derive(Clone, Copy)]
 pub struct LumaAnswer {
     pub number: u32,
     pub luma: f64,

@@ -1,6 +1,7 @@
 // Reads bit patterns of `f64`s, 16 hexadecimal digits a line, and prints what `ieee` makes of each.
 // A line is: the pattern; the bits of the value itself, its root, floor, ceiling and magnitude, and
 // of the larger of it and the value of the line before; whether it is finite; its whole part.
+#![tactic(auto)]
 
 // A byte as a number of 64 bits.
 fn wide(c: u8) -> u64 {

@@ -1,4 +1,5 @@
 // Reads cards, each behind its length in three bytes, and prints what each comes to.
+#![tactic(auto)]
 
 // A card's length by the three bytes before it.
 fn size_of(head: &[u8; 3]) -> usize {

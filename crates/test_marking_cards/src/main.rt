@@ -1,5 +1,7 @@
 // Reads cards, each behind its length in three bytes, runs each with marking, and prints what it comes to, what it marked, and
 // whether runs over other photographs end as they must.
+#![tactic(auto)]
+
 mod bytes; // bytes.rt: bytes by their places
 mod others; // others.rt: cards over other photographs
 
@@ -11,7 +13,7 @@ use others::{HEAD, over_copy, over_others, shape_of};
 const POISON: u8 = 17;
 
 // What a second run has in common with the first.
-#[derive(Drop)]
+#[derive(Clone, Copy)]
 struct Same {
     answer: bool,
     sheet: bool,

@@ -13,7 +13,7 @@ const LONGEST: usize = 65535;
 const GAP: u32 = 3;
 
 // What field 1 says.
-#[derive(Drop)]
+#[derive(Clone, Copy)]
 pub(crate) struct Shape {
     width: u16,
     height: u16,

@@ -1,4 +1,6 @@
 // Text and numbers as text, put into a buffer piece by piece; what lies past its end is left out.
+#![tactic(auto)]
+
 ghost use Rattle.prelude.specs.Prelude.{bit};
 ghost use Rattle.text.specs.Text.{
   decimal as decimal_of,

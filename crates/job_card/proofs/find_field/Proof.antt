@@ -1,5 +1,5 @@
 -- `job_card::find_field` meets its contract: three ways out refuse, and the fourth hands back what `part_of` found. Assumes nothing.
-use mathlib.Core.Bool.{and_false}
+use mathlib.Core.Bool.{and-false}
 use mathlib.Core.Path.{sym, ◌∙◌}
 use borrow.Author.Tests.{lt-leb, not-true, not-false}
 use borrow.Author.Rules.{rules}
@@ -29,7 +29,7 @@ part-result-end-2 : tie.Need-slice-bounds-result-end-2
 part-result-end-2 c = search rules
 
 returns-2 : tie.Need-returns-2
-returns-2 c = not_found _ _ (rw (lt-leb _ 8 c.before.if2.true, and_false))
+returns-2 c = not_found _ _ (rw (lt-leb _ 8 c.before.if2.true, and-false))
 
 well-formed-requires : tie.Need-well-formed-requires
 well-formed-requires c κs = search rules
@@ -46,7 +46,7 @@ part-result-end-3 c = search rules
 returns-3 : tie.Need-returns-3
 returns-3 c =
     let bad = sym c.before.before.well-formed-2.ensures ∙ not-true c.before.before.well-formed-2.result c.before.if3.true in
-    not_found _ _ (rw (bad, and_false))
+    not_found _ _ (rw (bad, and-false))
 
 part-of-requires : tie.Need-part-of-requires
 part-of-requires c κs = search rules
