@@ -1,7 +1,7 @@
 -- What the fields of a card are made of: a field is a one-byte tag, a two-byte length and contents;
 -- numbers stand with the lowest byte first, and floats as the 8 bytes of their binary64 bits.
 -- Definitions only, to be believed. They are total: a byte past the end of a list reads as 0.
-use Rattle.std.specs.Prelude.{ℕ, zero, suc, ◌+◌, ◌*◌, ◌/◌, ◌%◌, List, [], ◌∷◌, ◌++◌, get_or, length, drop, Float}
+use Rattle.std.specs.Prelude.{ℕ, zero, suc, ◌+◌, ◌*◌, ◌/◌, ◌%◌, List, [], ◌∷◌, ◌++◌, get_or, length, Float}
 use Rattle.std.specs.Float.{binary64}
 use Rattle.std.specs.Float.Ieee.{of_bits, to_bits}
 

@@ -1,7 +1,7 @@
 -- Rust's `f64` in the shape of its source: the operators in infix form, and the literals by their
 -- bit patterns. Definitions only, to be believed. The code's own terms are these, so that a
 -- contract that cites a definition is met by the same operations in the same order.
-use Rattle.std.specs.Prelude.{ℕ, Bool, true, false, pos, Float}
+use Rattle.std.specs.Prelude.{ℕ, Bool, pos, Float}
 use Rattle.std.specs.Float.{binary64}
 use Rattle.std.specs.Float.Ieee.{add, sub, mul, div, neg, lt, le, eq, of_bits, of_int, to_unsigned}
 

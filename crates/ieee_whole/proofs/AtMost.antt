@@ -1,5 +1,5 @@
 -- Rust's `<=` on finite values as a fact of their magnitudes, by the signs of the two, and what negation does to it. Assumes nothing.
-use Rattle.std.proofs.Common.{◌≡◌, ℕ, zero, suc, ◌+◌, ◌-◌, ◌*◌, ◌<◌, ◌≤◌, Bool, true, false, not, ◌||◌, T, eqb, ltb, ◌⊎◌, sym, refl, ap, ◌∙◌, inl, inr, le_of_eq, le_of_lt, mul-le-mul_right, eq-or-lt_of_le, zero-mul, arith, eqb→eq, ltb→lt, lt→ltb}
+use Rattle.std.proofs.Common.{◌≡◌, ℕ, zero, suc, ◌+◌, ◌*◌, ◌<◌, ◌≤◌, Bool, true, false, not, ◌||◌, T, eqb, ltb, ◌⊎◌, sym, refl, ap, ◌∙◌, inl, inr, le_of_eq, le_of_lt, mul-le-mul_right, eq-or-lt_of_le, zero-mul, arith, eqb→eq, ltb→lt, lt→ltb}
 use lib.Ieee.{Float, nan, inf, fin, up, down, neg, below, level, lt, eq, le}
 use lib.Ieee.Fits.{eq→eqb, and_i, and_l, and_r}
 use Rattle.prelude.proofs.Tests.{or_left, or_right}

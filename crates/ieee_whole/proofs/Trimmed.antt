@@ -1,5 +1,5 @@
 -- The whole part of a float as a `u32`, by what the two comparisons of `split_whole` say. Assumes nothing.
-use Rattle.std.proofs.Common.{◌≡◌, ℕ, zero, suc, ◌+◌, ◌-◌, ◌*◌, ◌/◌, ◌^◌, ◌<◌, ◌≤◌, min, Bool, true, false, cond, not, ◌&&◌, T, ltb, ℤ, pos, sym, refl, ap, subst, true≢false, zero-le, le_of_lt, mul_comm, le-div_iff_mul-le, arith, lt→ltb, ltb-false, ltb-true}
+use Rattle.std.proofs.Common.{◌≡◌, ℕ, zero, suc, ◌+◌, ◌-◌, ◌*◌, ◌/◌, ◌^◌, ◌<◌, ◌≤◌, min, Bool, true, false, cond, not, ◌&&◌, T, ltb, ℤ, pos, sym, refl, subst, true≢false, zero-le, le_of_lt, mul_comm, le-div_iff_mul-le, arith, lt→ltb, ltb-false, ltb-true}
 use native.Mathlib.Nat.{div-le_of_le-mul}
 use mathlib.Core.Bool.{beq}
 use lib.Ieee.{Float, nan, inf, fin, Format, prec, emax, low, binary64, up, down, odd, units, round, sum, add, lt, eq, le, is_nan, of_bits, to_unsigned}

@@ -1,7 +1,7 @@
 -- `floor_of x` is the largest whole number that is at most x, and `ceil_of x` the smallest that is at least x, for every finite x of binary64. They are held against every whole number,
 -- those that binary64 lacks included, and compared by Rust's `<=`.
 -- Why: from 2 ^ 53 on a value is whole itself, and below that the format holds every whole number, so the one that the definition names is rounded to itself. Assumes nothing.
-use Rattle.std.proofs.Common.{ℕ, ◌-◌, ◌*◌, Bool, not, T, ap, subst}
+use Rattle.std.proofs.Common.{ℕ, ◌*◌, Bool, not, T, ap, subst}
 use lib.Ieee.{Float, nan, inf, fin, binary64, up, down, neg, fits}
 use lib.Ieee.Exact.{HasValue}
 use lib.Ieee.Fits.{neg-fits}

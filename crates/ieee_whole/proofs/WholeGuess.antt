@@ -1,6 +1,6 @@
 -- A whole number w that is at most x, while x less w is below 1, is x without its fraction: the test by which `split_whole` takes a guess. The difference is rounded, but rounding keeps the order, so that of 1 or more it
 -- stays 1 or more. Assumes nothing.
-use Rattle.std.proofs.Common.{◌≡◌, ℕ, ◌+◌, ◌-◌, ◌*◌, ◌/◌, ◌^◌, ◌<◌, ◌≤◌, min, Bool, true, false, cond, not, ◌&&◌, T, ltb, sym, refl, ap, ◌∙◌, subst, true≢false, le_of_lt, mul-le-mul_right, div-lt_iff_lt-mul, mul-pos, le-div_iff_mul-le, mul-one, mul_right_comm, le_of_mul-le-mul_right, arith, lit<, ltb-false, ltb-true, le-ltb}
+use Rattle.std.proofs.Common.{◌≡◌, ℕ, ◌+◌, ◌-◌, ◌*◌, ◌/◌, ◌^◌, ◌<◌, ◌≤◌, min, Bool, true, false, cond, ◌&&◌, T, ltb, sym, refl, ap, ◌∙◌, subst, true≢false, le_of_lt, mul-le-mul_right, div-lt_iff_lt-mul, mul-pos, le-div_iff_mul-le, mul-one, mul_right_comm, le_of_mul-le-mul_right, arith, lit<, ltb-false, ltb-true, le-ltb}
 use lib.Ieee.{Float, nan, inf, fin, binary64, up, down, round, neg, sum, add, sub, lt, eq, le, fits, of_bits, of_int, to_unsigned}
 use lib.Ieee.Bits.{is_true}
 use lib.Ieee.Exact.{HasValue}

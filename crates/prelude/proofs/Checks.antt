@@ -7,7 +7,7 @@ use native.Mathlib.Omega.{arith}
 use mathlib.Core.Bool.{Bool, true, false, not, ◌&&◌, true≢false}
 use mathlib.Core.List.{List, [], ◌∷◌, ◌++◌}
 use lib.Dec.{eqb, eqb-suc-zero}
-use borrow.Author.Tests.{eq-eqb, ne_eqb, eqb-true, not-true}
+use borrow.Author.Tests.{eq-eqb, ne_eqb, not-true}
 use Rattle.prelude.specs.Prelude.{if◌then◌else◌}
 use Rattle.prelude.specs.Checks.{Check, first, all_pass, numbered}
 use Rattle.prelude.proofs.Tests.{both}
