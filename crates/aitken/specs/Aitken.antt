@@ -2,7 +2,7 @@
 -- step, and the third point moved by it (398 to 415). Definitions only, to be believed.
 use Rattle.std.specs.Prelude.{not, ◌||◌, List, get_or, Float}
 use Rattle.std.specs.Float.{nan}
-use Rattle.prelude.specs.Prelude.{if◌then◌else◌}
+use Rattle.prelude.specs.Prelude.{when◌then◌else◌}
 use Rattle.ieee.specs.Parts.{is_finite, magnitude}
 use Rattle.ieee.specs.Floats.{◌⊕◌, ◌⊖◌, ◌⊗◌, ◌⊘◌, ◌≺◌, f2, f1e_minus6}
 use Rattle.pixel.specs.Pixels.{source, edge_point}
@@ -19,8 +19,8 @@ unfoldable pub extrapolate : Float → Float → Float → Float → Extrapolate
 extrapolate step x0 x1 x2 =
     let denom = x2 ⊖ f2 ⊗ x1 ⊕ x0 in
     let correction = (x2 ⊖ x1) ⊗ (x2 ⊖ x1) ⊘ denom in
-    if magnitude denom ≺ f1e_minus6 then Converged else
-    if not (is_finite correction) || (step ≺ magnitude correction) then Diverged else
+    when magnitude denom ≺ f1e_minus6 then Converged else
+    when not (is_finite correction) || (step ≺ magnitude correction) then Diverged else
     Shifted ((x2 ⊖ correction) ⊖ x2)
 
 unfoldable pub projection : Direction → SourcePixel → Float

@@ -2,7 +2,7 @@
 -- and `rectified_to_source` (138 to 182), for no lens and for Brown-Conrady. Definitions only, to be
 -- believed.
 use Rattle.std.specs.Prelude.{Bool, true, false, not, ◌&&◌, ◌||◌, Float}
-use Rattle.prelude.specs.Prelude.{if◌then◌else◌}
+use Rattle.prelude.specs.Prelude.{when◌then◌else◌}
 use Rattle.number.specs.Numbers as number
 use Rattle.ieee.specs.Parts.{is_finite}
 use Rattle.ieee.specs.Floats.{◌⊕◌, ◌⊖◌, ◌⊗◌, ◌⊘◌, ◌≐◌, ◌≺◌, f0, f1, f2}
@@ -64,12 +64,12 @@ projected c p =
     source (s.fx ⊗ d.0 ⊕ s.cx) (s.fy ⊗ d.1 ⊕ s.cy)
 
 unfoldable pub if_finite : SourcePixel → SourcePoint
-if_finite p = if is_finite p.0 && is_finite p.1 then At p else Nowhere
+if_finite p = when is_finite p.0 && is_finite p.1 then At p else Nowhere
 
 unfoldable pub rectified_to_source : CameraCalibration → SourcePixel → SourcePoint
 rectified_to_source c p =
-    if not (is_finite p.0) || not (is_finite p.1) then Nowhere else
-    if is_identity c then At p else
+    when not (is_finite p.0) || not (is_finite p.1) then Nowhere else
+    when is_identity c then At p else
     if_finite (projected c p)
 
 -- ---- what an answer says: document 01's number, and the values
@@ -80,5 +80,5 @@ place_answer Nowhere = record { number = number.place; place = source f0 f0 }
 
 unfoldable pub camera_answer : CameraCalibration → SourcePixel → PlaceAnswer
 camera_answer c p =
-    if not (valid_camera c) then record { number = number.lens; place = source f0 f0 } else
+    when not (valid_camera c) then record { number = number.lens; place = source f0 f0 } else
     place_answer (rectified_to_source c p)

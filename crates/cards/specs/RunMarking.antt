@@ -1,7 +1,7 @@
 -- A job card run by the marking call: what it returns, and what it leaves in the sheet and the copy
 -- that it is lent. Definitions only, to be believed.
 use Rattle.std.specs.Prelude.{◌≡◌, ℕ, List}
-use Rattle.prelude.specs.Prelude.{if◌then◌else◌}
+use Rattle.prelude.specs.Prelude.{when◌then◌else◌}
 use Rattle.number.specs.Numbers as number
 use Rattle.corners.specs.declared.Answer.{Answer}
 use Rattle.corners.specs.Corners.{refused}
@@ -13,15 +13,15 @@ use Rattle.job.specs.Job.{request_of, modules_of, photograph_of}
 
 module _ (card s c : List ℕ) where
   unfoldable pub job_marking : Answer
-  job_marking = if well_formed card then refine_marking (request_of card) (modules_of card) (photograph_of card) s c else refused number.card
+  job_marking = when well_formed card then refine_marking (request_of card) (modules_of card) (photograph_of card) s c else refused number.card
 
   -- the sheet after it
   unfoldable pub job_sheet : List ℕ
-  job_sheet = if well_formed card then sheet_after (request_of card) (modules_of card) (photograph_of card) s c else s
+  job_sheet = when well_formed card then sheet_after (request_of card) (modules_of card) (photograph_of card) s c else s
 
   -- the copy after it
   unfoldable pub job_copy : List ℕ
-  job_copy = if well_formed card then copy_after (request_of card) (modules_of card) (photograph_of card) s c else c
+  job_copy = when well_formed card then copy_after (request_of card) (modules_of card) (photograph_of card) s c else c
 
 -- What the call promises: it returns a, and takes the sheet from s to s' and the copy from c to c'.
 pub record JobMarks (card : List ℕ) (a : Answer) (s s' c c' : List ℕ) : Type 0 where

@@ -2,7 +2,7 @@
 -- cross, and the answer (606 to 627). Definitions only, to be believed.
 use Rattle.std.specs.Prelude.{ℕ, ◌+◌, ◌%◌, Bool, true, false, not, ◌&&◌, List, [], ◌∷◌, ltb, eqb, get_or, replicate}
 use Rattle.std.specs.Float.{nan}
-use Rattle.prelude.specs.Prelude.{if◌then◌else◌, bit}
+use Rattle.prelude.specs.Prelude.{when◌then◌else◌, bit}
 use Rattle.number.specs.Numbers as number
 use Rattle.ieee.specs.Floats.{f0}
 use Rattle.pixel.specs.Pixels.{source, direction, corner}
@@ -43,7 +43,7 @@ valid_count es = bit (stat_in es 0).valid + bit (stat_in es 1).valid + bit (stat
 unfoldable pub crossed_at : Edges → ℕ → Crossing
 crossed_at es i =
     let before = (i + 3) % 4 in
-    if (stat_in es before).valid && (stat_in es i).valid then crossing (line_in es before) (line_in es i) else Parallel
+    when (stat_in es before).valid && (stat_in es i).valid then crossing (line_in es before) (line_in es i) else Parallel
 
 unfoldable pub or_else : Crossing → SourcePixel → SourcePixel
 or_else (At p) q = p
@@ -68,6 +68,6 @@ refined_corners q es = record {
 
 unfoldable pub round_end : List SourcePixel → Edges → Answer
 round_end q es =
-    if not (eqb es.number number.answer) then refused es.number else
-    if ltb (valid_count es) 2 then refused number.thin else
+    when not (eqb es.number number.answer) then refused es.number else
+    when ltb (valid_count es) 2 then refused number.thin else
     answered (refined_corners q es)

@@ -2,7 +2,7 @@
 -- line through those. Definitions only, to be believed.
 use Rattle.std.specs.Prelude.{ℕ, false, List, [], ◌∷◌, ◌++◌, length, Float}
 use Rattle.std.specs.Float.{binary64}
-use Rattle.prelude.specs.Prelude.{if◌then◌else◌}
+use Rattle.prelude.specs.Prelude.{when◌then◌else◌}
 use Rattle.ieee_root.specs.Root.{root}
 use Rattle.ieee.specs.Floats.{◌⊕◌, ◌⊖◌, ◌⊗◌, ◌⊘◌, ◌≺◌, float, f1e_minus9}
 use Rattle.pixel.specs.declared.SourcePixel.{SourcePixel}
@@ -27,7 +27,7 @@ use Rattle.probe.specs.Probe.{probe_ray}
 
 -- too short a module ends a probe unread
 unfoldable pub localize_probe : Settings → ProbeRay → SampleTree Located
-localize_probe s aim = if aim.perp_module_px ≺ f1e_minus9 then done NoEdge else localize s aim.ray
+localize_probe s aim = when aim.perp_module_px ≺ f1e_minus9 then done NoEdge else localize s aim.ray
 
 unfoldable pub probed : Plan → Side → Probe → SampleTree Located
 probed p side at = localize_probe p.settings (probe_ray p side at)
@@ -61,5 +61,5 @@ edge_length a b =
 unfoldable pub edge : Plan → List ℕ → Side → SampleTree EdgeFit
 edge p modules side =
     let len = edge_length side.from side.to in
-    if len ≺ f1e_minus9 then done (TooFewPoints (stat 0 0 0 false)) else
+    when len ≺ f1e_minus9 then done (TooFewPoints (stat 0 0 0 false)) else
     fitted p side (len ⊘ float p.dim) (probes_of p.settings (grid_of p.dim modules) side.edge)

@@ -3,7 +3,7 @@
 -- `profile`.
 use Rattle.std.specs.Prelude.{ℕ, not, List, [], ◌∷◌, ◌++◌, eqb, length}
 use Rattle.prelude.specs.Checks.{check, first}
-use Rattle.prelude.specs.Prelude.{if◌then◌else◌}
+use Rattle.prelude.specs.Prelude.{when◌then◌else◌}
 use Rattle.number.specs.Numbers as number
 use Rattle.ieee.specs.Floats.{f0}
 use Rattle.consts.specs.Consts.{defaults}
@@ -34,5 +34,5 @@ view_number bytes stride e = first (photograph_checks e.width e.height stride (l
 unfoldable pub localize_edge_point : List ℕ → ℕ → Scene → Ray → PointAnswer
 localize_edge_point bytes stride e y =
     let n = view_number bytes stride e in
-    if not (eqb n number.answer) then record { number = n; point = no_point } else
+    when not (eqb n number.answer) then record { number = n; point = no_point } else
     point_answer (value e (photo bytes stride) (localize defaults y))

@@ -8,7 +8,7 @@ use lib.ListN.{length, take}
 use lib.Seq.{length-take-le, get_or-take, ext_get_or}
 use lib.Ieee.{Float, nan}
 use borrow.Author.Tests.{lt-ltb, le-ltb}
-use Rattle.prelude.specs.Prelude.{if◌then◌else◌}
+use Rattle.prelude.specs.Prelude.{when◌then◌else◌}
 use Rattle.number.specs.Numbers as number
 use Rattle.ieee.specs.Floats.{◌≼◌}
 use Rattle.consts.specs.Consts.{max_edge_points}
@@ -107,7 +107,7 @@ inliers_alike most (r ∷ rs) none = none
 inliers_alike most (r ∷ rs) (more {x} {y} {w} {xs} {ys} {ws} a) = by (r ≼ most) (inliers_alike most rs a)
   where
     by : (b : Bool) → Alike (inliers most rs xs) (inliers most rs ys) (inliers most rs ws) →
-        Alike (if b then x ∷ inliers most rs xs else inliers most rs xs) (if b then y ∷ inliers most rs ys else inliers most rs ys) (if b then w ∷ inliers most rs ws else inliers most rs ws)
+        Alike (when b then x ∷ inliers most rs xs else inliers most rs xs) (when b then y ∷ inliers most rs ys else inliers most rs ys) (when b then w ∷ inliers most rs ws else inliers most rs ws)
     by true i = more i
     by false i = i
 
@@ -118,8 +118,8 @@ inliers-points most (r ∷ rs) none = refl
 inliers-points most (r ∷ rs) (more {x} {y} {w} {xs} {ys} {ws} a) = by (r ≼ most) (inliers-points most rs a)
   where
     by : (b : Bool) → points_of (inliers most rs xs) (inliers most rs ys) (inliers most rs ws) ≡ inliers most rs (points_of xs ys ws) →
-        points_of (if b then x ∷ inliers most rs xs else inliers most rs xs) (if b then y ∷ inliers most rs ys else inliers most rs ys) (if b then w ∷ inliers most rs ws else inliers most rs ws)
-        ≡ (if b then edge_point (source x y) w ∷ inliers most rs (points_of xs ys ws) else inliers most rs (points_of xs ys ws))
+        points_of (when b then x ∷ inliers most rs xs else inliers most rs xs) (when b then y ∷ inliers most rs ys else inliers most rs ys) (when b then w ∷ inliers most rs ws else inliers most rs ws)
+        ≡ (when b then edge_point (source x y) w ∷ inliers most rs (points_of xs ys ws) else inliers most rs (points_of xs ys ws))
     by true i = ap (λ (l : List EdgePoint). edge_point (source x y) w ∷ l) i
     by false i = i
 

@@ -10,7 +10,7 @@ use borrow.Author.Tests.{ltb-false}
 use lib.Ieee.{Float, nan, inf, fin, up, down, lt, to_unsigned}
 use lib.Ieee.Exact.{HasValue}
 use lib.Ieee.Fits.{down_pos}
-use Rattle.prelude.specs.Prelude.{if◌then◌else◌}
+use Rattle.prelude.specs.Prelude.{when◌then◌else◌}
 use Rattle.ieee.specs.Parts.{is_finite}
 use Rattle.ieee_whole.proofs.WholeGuess.{float_value}
 use Rattle.ieee.specs.Floats.{◌⊖◌, ◌≺◌, ◌≐◌, f0, float, whole_part}
@@ -59,7 +59,7 @@ neighbour_cut : (i n : ℕ) (f : Float) → i ≤ n - 1 → (i ≤ neighbour i n
 unfolding neighbour
 neighbour_cut i n f h = go (f ≐ f0)
   where
-    go : (b : Bool) → (i ≤ (if b then i else min (i + 1) (n - 1))) × ((if b then i else min (i + 1) (n - 1)) ≤ n - 1)
+    go : (b : Bool) → (i ≤ (when b then i else min (i + 1) (n - 1))) × ((when b then i else min (i + 1) (n - 1)) ≤ n - 1)
     go true = (omega arith, omega arith)
     go false = (omega arith, omega arith)
 

@@ -7,7 +7,7 @@ use mathlib.Core.Bool.{Bool, true, false, not, ◌&&◌, ◌||◌, and-false, tr
 use lib.Ieee.{Float, of_bits}
 use borrow.Author.Tests.{not-true, not-false}
 use Rattle.prelude.proofs.Tests.{both}
-use Rattle.prelude.specs.Prelude.{if◌then◌else◌}
+use Rattle.prelude.specs.Prelude.{when◌then◌else◌}
 use Rattle.ieee.specs.Parts.{is_finite}
 use Rattle.ieee.specs.Floats.{◌≺◌, ◌≼◌, ◌≐◌, f0, float}
 use Rattle.ieee.proofs.Order.{not_more, else_more, amid_finite}
@@ -140,7 +140,7 @@ if_finite-footprint : (w h : ℕ) (q : SourcePixel) → point_footprint w h (At 
 unfolding point_footprint if_finite
 if_finite-footprint w h q = go (is_finite q.0) refl (is_finite q.1) refl
   where
-    go : (a : Bool) → is_finite q.0 ≡ a → (b : Bool) → is_finite q.1 ≡ b → footprint w h Reject q.0 q.1 ≡ point_footprint w h (if a && b then At q else Nowhere)
+    go : (a : Bool) → is_finite q.0 ≡ a → (b : Bool) → is_finite q.1 ≡ b → footprint w h Reject q.0 q.1 ≡ point_footprint w h (when a && b then At q else Nowhere)
     go true ea true eb = refl
     go true ea false eb = sym (off_y w h Reject q.0 q.1 ea eb)
     go false ea b eb = sym (off_x w h Reject q.0 q.1 ea)

@@ -9,7 +9,7 @@ use lib.Ieee.Exact.{HasValue}
 use lib.Dec.{ltb}
 use borrow.Author.Tests.{ltb-true, ltb-false}
 use Rattle.ieee.specs.Parts.{is_finite}
-use Rattle.ieee.specs.Floats.{◌⊖◌, ◌≺◌, ◌≐◌, f0, float, whole_part}
+use Rattle.ieee.specs.Floats.{◌⊖◌, ◌≐◌, f0, float, whole_part}
 use Rattle.ieee.proofs.Magnitudes.{Within}
 use Rattle.ieee.proofs.Order.{gone}
 use Rattle.ieee.proofs.Zeros.{Zero, round_zero, zero_minus, above_zero, minus_itself, equals_zero}

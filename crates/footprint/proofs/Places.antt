@@ -9,7 +9,7 @@ use borrow.Author.Tests.{not-true, not-false, le-ltb}
 use lib.Ieee.{Float, nan, inf, fin, up, down, lt, of_bits}
 use lib.Ieee.Exact.{HasValue}
 use Rattle.prelude.proofs.Tests.{both, neither_left, neither_right}
-use Rattle.prelude.specs.Prelude.{if◌then◌else◌}
+use Rattle.prelude.specs.Prelude.{when◌then◌else◌}
 use Rattle.ieee.specs.Parts.{is_finite}
 use Rattle.ieee.specs.Floats.{◌≺◌, f0, float}
 use Rattle.ieee.proofs.Order.{not_itself}
@@ -64,7 +64,7 @@ clamped_between n x h f = go (x ≺ f0) refl (float n ≺ x) refl
     zero : is_finite f0 ≡ true
     zero = unfold is_finite of_bits in refl
 
-    go : (a : Bool) → (x ≺ f0) ≡ a → (b : Bool) → (float n ≺ x) ≡ b → Between n (if a then f0 else if b then float n else x)
+    go : (a : Bool) → (x ≺ f0) ≡ a → (b : Bool) → (float n ≺ x) ≡ b → Between n (when a then f0 else when b then float n else x)
     go true ea b eb = record { finite = zero; from = not_itself f0; upto = below }
     go false ea true eb = record { finite = float-finite n h; from = below; upto = not_itself (float n) }
     go false ea false eb = record { finite = f; from = ea; upto = eb }
@@ -92,14 +92,14 @@ module _
     every_footprint b x y = go (not (is_finite x) || not (is_finite y)) refl (outside w h x y) refl
       where
         go : (a : Bool) → (not (is_finite x) || not (is_finite y)) ≡ a → (o : Bool) → outside w h x y ≡ o
-            → P (if a then Rejected else if o then at_border w h b x y else interior_cell w h x y)
+            → P (when a then Rejected else when o then at_border w h b x y else interior_cell w h x y)
         go true ea o eo = nothing
         go false ea o eo =
             let fx : is_finite x ≡ true = not-false (is_finite x) (neither_left (not (is_finite x)) (not (is_finite y)) ea) in
             let fy : is_finite y ≡ true = not-false (is_finite y) (neither_right (not (is_finite x)) (not (is_finite y)) ea) in
             by_side fx fy o eo
           where
-            by_side : is_finite x ≡ true → is_finite y ≡ true → (o : Bool) → outside w h x y ≡ o → P (if o then at_border w h b x y else interior_cell w h x y)
+            by_side : is_finite x ≡ true → is_finite y ≡ true → (o : Bool) → outside w h x y ≡ o → P (when o then at_border w h b x y else interior_cell w h x y)
             by_side fx fy true eo = beyond b x y fx fy
             by_side fx fy false eo =
                 let three = neither_left ((x ≺ f0) || (y ≺ f0) || (float (w - 1) ≺ x)) (float (h - 1) ≺ y) eo in

@@ -2,7 +2,7 @@
 -- and sample.rs, `SourceView::sample` (744 to 750), where a sample of a scene falls. Definitions only,
 -- to be believed.
 use Rattle.std.specs.Prelude.{ℕ, ◌+◌, ◌-◌, min, Bool, true, not, ◌||◌, Float}
-use Rattle.prelude.specs.Prelude.{if◌then◌else◌}
+use Rattle.prelude.specs.Prelude.{when◌then◌else◌}
 use Rattle.ieee.specs.Parts.{is_finite}
 use Rattle.ieee.specs.Floats.{◌⊖◌, ◌≺◌, ◌≐◌, f0, float, whole_part}
 use Rattle.pixel.specs.declared.SourcePixel.{SourcePixel}
@@ -21,7 +21,7 @@ use Rattle.footprint.specs.declared.Scene.{Scene}
 
 -- the column or row after i, cut at the last of n, where the fraction gives it weight, and else i
 unfoldable pub neighbour : ℕ → ℕ → Float → ℕ
-neighbour i n fraction = if fraction ≐ f0 then i else min (i + 1) (n - 1)
+neighbour i n fraction = when fraction ≐ f0 then i else min (i + 1) (n - 1)
 
 -- among the pixels that bear weight: where the x fraction is 0, or -0, the right column is the left
 -- one, and where the y fraction is, the lower row is the upper one
@@ -35,7 +35,7 @@ interior_cell w h x y =
 
 -- Rust's `x.clamp(0.0, most)`
 unfoldable pub clamped : Float → Float → Float
-clamped x most = if x ≺ f0 then f0 else if most ≺ x then most else x
+clamped x most = when x ≺ f0 then f0 else when most ≺ x then most else x
 
 unfoldable pub at_border : ℕ → ℕ → BorderMode → Float → Float → Footprint
 at_border w h Reject x y = Rejected
@@ -48,8 +48,8 @@ outside w h x y = (x ≺ f0) || (y ≺ f0) || (float (w - 1) ≺ x) || (float (h
 -- finiteness comes first, under every border mode
 unfoldable pub footprint : ℕ → ℕ → BorderMode → Float → Float → Footprint
 footprint w h b x y =
-    if not (is_finite x) || not (is_finite y) then Rejected else
-    if outside w h x y then at_border w h b x y else interior_cell w h x y
+    when not (is_finite x) || not (is_finite y) then Rejected else
+    when outside w h x y then at_border w h b x y else interior_cell w h x y
 
 -- ---- sample.rs, `SourceView::sample`: through the camera, where there is one, with the border rejected
 

@@ -2,7 +2,7 @@
 -- refine.rs takes them (533 to 539); and which grids are refused by 3. Definitions only, to be
 -- believed.
 use Rattle.std.specs.Prelude.{ℕ, zero, suc, ◌+◌, ◌-◌, ◌*◌, Bool, true, ◌&&◌, List, [], ◌∷◌, leb, eqb, get_or, length}
-use Rattle.prelude.specs.Prelude.{if◌then◌else◌}
+use Rattle.prelude.specs.Prelude.{when◌then◌else◌}
 
 -- one byte a module, by rows; 1 is dark
 pub record Grid : Type 0 where
@@ -17,7 +17,7 @@ dark g column row = eqb (get_or g.modules (row * g.dim + column) 0) 1
 
 -- what goes by the edge: 0 top, 1 right, 2 bottom, else left
 abbrev pub by_side : {A : Type 0} → ℕ → A → A → A → A → A
-by_side e top right bottom left = if eqb e 0 then top else if eqb e 1 then right else if eqb e 2 then bottom else left
+by_side e top right bottom left = when eqb e 0 then top else when eqb e 1 then right else when eqb e 2 then bottom else left
 
 -- module m of an edge, or the one so many modules behind it
 unfoldable pub edge_dark : Grid → ℕ → ℕ → ℕ → Bool

@@ -72,9 +72,9 @@ impl PerspectiveTransform {
 
     // The map's matrix times a column.
     fn times(self, x: f64, y: f64, z: f64) -> Column
-        ensures result_value { result.0 ≡ dot self.a11 self.a21 self.a31 x y z }
-        ensures result_value_2 { result.1 ≡ dot self.a12 self.a22 self.a32 x y z }
-        ensures result_value_3 { result.2 ≡ dot self.a13 self.a23 self.a33 x y z }
+        ensures first { result.0 ≡ dot self.a11 self.a21 self.a31 x y z }
+        ensures second { result.1 ≡ dot self.a12 self.a22 self.a32 x y z }
+        ensures third { result.2 ≡ dot self.a13 self.a23 self.a33 x y z }
     {
         Column(
             self.a11 * x + self.a21 * y + self.a31 * z,

@@ -5,7 +5,7 @@
 use Rattle.std.specs.Prelude.{Bool, true, false, Float}
 use Rattle.std.specs.Float.{nan, inf, fin}
 use Rattle.std.specs.Float.Ieee.{is_nan}
-use Rattle.prelude.specs.Prelude.{if◌then◌else◌}
+use Rattle.prelude.specs.Prelude.{when◌then◌else◌}
 use Rattle.ieee.specs.Floats.{◌≺◌}
 
 -- x without its sign
@@ -23,7 +23,7 @@ is_finite (fin s m e) = true
 -- The larger of a and b, and of two zeros the first. Where one of them is a NaN it is the other: Rust's `f64::max`.
 unfoldable pub maximum : Float → Float → Float
 maximum a b =
-    if is_nan a then b else
-    if is_nan b then a else
-    if a ≺ b then b else
+    when is_nan a then b else
+    when is_nan b then a else
+    when a ≺ b then b else
     a

@@ -2,7 +2,7 @@
 -- contents of its fields. Definitions only, to be believed. They are total, and mean nothing of a
 -- card that is not well formed, which is refused before they are asked for.
 use Rattle.std.specs.Prelude.{ℕ, ◌+◌, List, [], ◌∷◌, eqb, drop}
-use Rattle.prelude.specs.Prelude.{if◌then◌else◌}
+use Rattle.prelude.specs.Prelude.{when◌then◌else◌}
 use Rattle.consts.specs.Consts.{defaults}
 use Rattle.pixel.specs.declared.WorkingPixel.{WorkingPixel}
 use Rattle.camera.specs.declared.CameraIntrinsics.{CameraIntrinsics}
@@ -23,11 +23,11 @@ intrinsics_at s i = record { fx = float_at s i; fy = float_at s (i + 8); cx = fl
 
 unfoldable pub lens_of : List ℕ → LensDistortion
 lens_of s =
-    if eqb (byte_at s 0) 1 then BrownConrady (float_at s 1) (float_at s 9) (float_at s 17) (float_at s 25) (float_at s 33) else None
+    when eqb (byte_at s 0) 1 then BrownConrady (float_at s 1) (float_at s 9) (float_at s 17) (float_at s 25) (float_at s 33) else None
 
 unfoldable pub view_of : List ℕ → View
 view_of card =
-    if has_exactly card 8
+    when has_exactly card 8
     then Calibrated (record {
       intrinsics = intrinsics_at (field_part card 7) 0;
       rectified = intrinsics_at (field_part card 7) 32;

@@ -1,6 +1,6 @@
 -- What the field finder hands back. In a well formed card the fields 1 to 6 are there, and 7 and 8 exactly where it has eight: a card that ends
 -- behind field 6 has no room for the header of a seventh. Assumes nothing.
-use Prim.Native.Nat.{ℕ, ◌-◌, ◌≤◌}
+use Prim.Native.Nat.{ℕ, ◌≤◌}
 use mathlib.Core.Bool.{true, false, ◌&&◌, ◌||◌, or-true, or-false}
 use mathlib.Core.Path.{◌≡◌, refl}
 use mathlib.Core.List.{List, []}
@@ -9,7 +9,7 @@ use borrow.Author.Tests.{le-leb, leb-true, leb-false, eqb-true}
 use lib.Dec.{leb, eqb}
 use lib.ListN.{length}
 use Rattle.prelude.proofs.Tests.{both}
-use Rattle.prelude.specs.Prelude.{if◌then◌else◌}
+use Rattle.prelude.specs.Prelude.{when◌then◌else◌}
 use Rattle.prelude.proofs.Branches.{by_test}
 use Rattle.number.specs.Numbers as number
 use Rattle.job_card.specs.JobCard.{start_at, contents, has_fields, has_exactly, well_formed, field_number, field_part}
@@ -41,7 +41,7 @@ listed card t most good =
     (λ high. rw (high, shorter, no_seventh card t six.1 (leb-false t 6 high))))
 
 pub found : (card : List ℕ) (t : ℕ) (part : List ℕ) → 1 ≤ t → t ≤ 8 → well_formed card ≡ true
-    → part ≡ (if has_fields card t then contents card t else [])
+    → part ≡ (when has_fields card t then contents card t else [])
     → (part ≡ field_part card t) × (number.answer ≡ field_number card t)
 unfolding field_part field_number
 found card t part some most good is =

@@ -9,7 +9,7 @@ use borrow.Author.Tests.{le-leb, lt-leb, eq-eqb, ne_eqb, leb-true}
 use lib.Dec.{leb, eqb}
 use lib.ListN.{length, take, drop}
 use Rattle.prelude.proofs.Tests.{both}
-use Rattle.prelude.specs.Prelude.{if◌then◌else◌}
+use Rattle.prelude.specs.Prelude.{when◌then◌else◌}
 use Rattle.fields.specs.Fields.{byte_at}
 use Rattle.job_card.specs.JobCard.{size_at, start_at, start_of, contents, suits, has_field, has_fields}
 use Rattle.job_card.specs.declared.FieldEnd.{FieldEnd}
@@ -101,7 +101,7 @@ row_within card (suc k) all = within_card card (suc k) (omega arith) (has_field_
 
 -- where a field or a row of fields ends, if it is there
 abbrev pub end_if : Bool → ℕ → FieldEnd
-end_if there end = if there then At end else Nowhere
+end_if there end = when there then At end else Nowhere
 
 pub ended : (there : Bool) (x y : ℕ) → At x ≡ end_if there y → (there ≡ true) × (x ≡ y)
 ended true x y e = (refl, cc)

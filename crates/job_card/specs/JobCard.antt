@@ -4,7 +4,7 @@
 --   1 width, height, stride   2 photograph   3 dim, grid   4 sx, sy   5 corners   6 polarity
 --   7 source then rectified intrinsics   8 lens
 use Rattle.std.specs.Prelude.{ℕ, zero, suc, ◌+◌, ◌-◌, Bool, true, not, ◌&&◌, ◌||◌, List, [], leb, eqb, length, take, drop}
-use Rattle.prelude.specs.Prelude.{if◌then◌else◌}
+use Rattle.prelude.specs.Prelude.{when◌then◌else◌}
 use Rattle.number.specs.Numbers as number
 use Rattle.fields.specs.Fields.{byte_at, number_at}
 
@@ -36,13 +36,13 @@ is_lens s = (eqb (length s) 1 && eqb (byte_at s 0) 0) || (eqb (length s) 41 && e
 -- contents that suit their tag
 unfoldable pub suits : ℕ → List ℕ → Bool
 suits t s =
-    if eqb t 1 then eqb (length s) 6 else
-    if eqb t 2 then true else
-    if eqb t 3 then leb 1 (length s) else
-    if eqb t 4 then eqb (length s) 16 else
-    if eqb t 5 then eqb (length s) 64 else
-    if eqb t 6 then eqb (length s) 1 && leb (byte_at s 0) 1 else
-    if eqb t 7 then eqb (length s) 64 else
+    when eqb t 1 then eqb (length s) 6 else
+    when eqb t 2 then true else
+    when eqb t 3 then leb 1 (length s) else
+    when eqb t 4 then eqb (length s) 16 else
+    when eqb t 5 then eqb (length s) 64 else
+    when eqb t 6 then eqb (length s) 1 && leb (byte_at s 0) 1 else
+    when eqb t 7 then eqb (length s) 64 else
     is_lens s
 
 -- field t is there: its header, its tag, all of its contents
@@ -66,11 +66,11 @@ well_formed card = leb (length card) 65535 && (has_exactly card 6 || has_exactly
 -- ---- the field finder: the number that it writes, and the part that it hands back
 
 unfoldable pub field_number : List ℕ → ℕ → ℕ
-field_number card t = if leb 1 t && leb t 8 && well_formed card then number.answer else number.card
+field_number card t = when leb 1 t && leb t 8 && well_formed card then number.answer else number.card
 
 -- empty where the card is malformed, where the tag is not listed, and where 7 or 8 is absent
 unfoldable pub field_part : List ℕ → ℕ → List ℕ
 field_part card t =
-    if not (eqb (field_number card t) number.answer) then [] else
-    if leb t 6 || has_exactly card 8 then contents card t else
+    when not (eqb (field_number card t) number.answer) then [] else
+    when leb t 6 || has_exactly card 8 then contents card t else
     []

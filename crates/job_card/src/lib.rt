@@ -2,7 +2,7 @@
 #![tactic(auto)]
 
 ghost use Rattle.std.specs.Prelude.{◌≡◌, [], ◌≤◌, length};
-ghost use Rattle.prelude.specs.Prelude.{if◌then◌else◌};
+ghost use Rattle.prelude.specs.Prelude.{when◌then◌else◌};
 ghost use Rattle.job_card.specs.JobCard.{start_at, start_of, contents, is_lens, suits, has_field, has_fields, has_exactly, well_formed, field_number, field_part};
 
 use fields::number_at;
@@ -64,7 +64,7 @@ fn suits_tag(tag: u8, s: &[u8]) -> bool
 // Where the field of a tag ends, whose header stands at i if it is there.
 fn field_end(card: &[u8], tag: u8, i: usize) -> FieldEnd
     requires { (1 ≤ tag) × (i ≡ start_of card.now tag) × (i ≤ length card.now) }
-    ensures { result ≡ (if has_field card.now tag then FieldEnd.At (start_at card.now tag) else FieldEnd.Nowhere) }
+    ensures { result ≡ (when has_field card.now tag then FieldEnd.At (start_at card.now tag) else FieldEnd.Nowhere) }
 {
     if card.len() - i < 3 {
         return FieldEnd::Nowhere;
@@ -85,7 +85,7 @@ fn field_end(card: &[u8], tag: u8, i: usize) -> FieldEnd
 
 // Where the fields 1 to n of a card end.
 fn fields_end(card: &[u8], n: u8) -> FieldEnd
-    ensures { result ≡ (if has_fields card.now n then FieldEnd.At (start_at card.now n) else FieldEnd.Nowhere) }
+    ensures { result ≡ (when has_fields card.now n then FieldEnd.At (start_at card.now n) else FieldEnd.Nowhere) }
 {
     let mut i: usize = 0;
     let mut k: u8 = 0;
@@ -127,7 +127,7 @@ pub fn well_formed(card: &[u8]) -> bool
 // The contents of a field, empty where it or one before it is not there.
 fn part_of<'a>(card: &'a [u8], tag: u8) -> &'a [u8]
     requires { (1 ≤ tag) × (tag ≤ 8) }
-    ensures { result.now ≡ (if has_fields card.now tag then contents card.now tag else []) }
+    ensures { result.now ≡ (when has_fields card.now tag then contents card.now tag else []) }
 {
     let FieldEnd::At(i) = fields_end(card, tag - 1) else {
         return &card[0..0];

@@ -1,7 +1,7 @@
 -- line.rs, `intersect_lines` (132 to 145): a line, and the crossing of two lines. Definitions only,
 -- to be believed.
 use Rattle.std.specs.Prelude.{not}
-use Rattle.prelude.specs.Prelude.{if◌then◌else◌}
+use Rattle.prelude.specs.Prelude.{when◌then◌else◌}
 use Rattle.number.specs.Numbers as number
 use Rattle.ieee.specs.Parts.{is_finite, magnitude}
 use Rattle.ieee.specs.Floats.{◌⊕◌, ◌⊖◌, ◌⊗◌, ◌⊘◌, ◌≺◌, f0, f1e_minus9}
@@ -28,8 +28,8 @@ crossing a b =
     let dx = b.centroid.0 ⊖ a.centroid.0 in
     let dy = b.centroid.1 ⊖ a.centroid.1 in
     let distance = (dx ⊗ b.dir.y ⊖ dy ⊗ b.dir.x) ⊘ cross in
-    if not (is_finite cross) then Parallel else
-    if magnitude cross ≺ f1e_minus9 then Parallel else
+    when not (is_finite cross) then Parallel else
+    when magnitude cross ≺ f1e_minus9 then Parallel else
     At (source (a.centroid.0 ⊕ distance ⊗ a.dir.x) (a.centroid.1 ⊕ distance ⊗ a.dir.y))
 
 -- ---- what an answer says: document 01's number, and the values

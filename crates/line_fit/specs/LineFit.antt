@@ -3,7 +3,7 @@
 use Rattle.std.specs.Prelude.{ℕ, Bool, not, ◌&&◌, List, ltb, eqb, length, Float}
 use Rattle.std.specs.Float.Ieee.{neg}
 use Rattle.std.specs.Float.{binary64}
-use Rattle.prelude.specs.Prelude.{if◌then◌else◌}
+use Rattle.prelude.specs.Prelude.{when◌then◌else◌}
 use Rattle.number.specs.Numbers as number
 use Rattle.ieee.specs.Parts.{is_finite}
 use Rattle.ieee_root.specs.Root.{root}
@@ -11,7 +11,6 @@ use Rattle.ieee.specs.Floats.{◌⊕◌, ◌⊖◌, ◌⊗◌, ◌⊘◌, ◌≐
 use Rattle.pixel.specs.Pixels.{source, direction}
 use Rattle.pixel.specs.declared.SourcePixel.{SourcePixel}
 use Rattle.pixel.specs.declared.Direction.{Direction}
-use Rattle.line.specs.declared.Line2.{Line2}
 use Rattle.line.specs.Line.{line, zero_line}
 use Rattle.float_lists.specs.Sums.{at, sum_to, all_to, finite_to}
 use Rattle.line_fit.specs.declared.Moments.{Moments}
@@ -24,10 +23,10 @@ use Rattle.line_fit.specs.declared.LineAnswer.{LineAnswer}
 -- a is sxx - syy, b is 2 * sxy, h the root of a * a + b * b
 unfoldable pub half_angle_direction : Float → Float → Float → Direction
 half_angle_direction a b h =
-    if f0 ≼ a
+    when f0 ≼ a
     then (let c = root binary64 ((h ⊕ a) ⊘ (f2 ⊗ h)) in direction c (b ⊘ (f2 ⊗ h ⊗ c)))
     else (let m = root binary64 ((h ⊖ a) ⊘ (f2 ⊗ h)) in
-    let s = if f0 ≼ b then m else neg m in
+    let s = when f0 ≼ b then m else neg m in
     direction (b ⊘ (f2 ⊗ h ⊗ s)) s)
 
 unfoldable pub principal_direction : Moments → Direction
@@ -35,7 +34,7 @@ principal_direction m =
     let a = m.sxx ⊖ m.syy in
     let b = f2 ⊗ m.sxy in
     let h = root binary64 (a ⊗ a ⊕ b ⊗ b) in
-    if h ≐ f0 then direction f1 f0 else half_angle_direction a b h
+    when h ≐ f0 then direction f1 f0 else half_angle_direction a b h
 
 -- ---- `fit_line_tls_weighted`: 13, 14, 15, the sum of 16, a negative weight of 16, 10, 11
 
@@ -60,9 +59,9 @@ scatter n xs ys ws c =
 
 unfoldable pub fit_moments : SourcePixel → Moments → Fitted
 fit_moments c m =
-    if m.sxx ⊕ m.syy ≼ ε then Refused number.line else
-    if not (finite_place c) then Refused number.overflow else
-    if not (finite_direction (principal_direction m)) then Refused number.overflow else
+    when m.sxx ⊕ m.syy ≼ ε then Refused number.line else
+    when not (finite_place c) then Refused number.overflow else
+    when not (finite_direction (principal_direction m)) then Refused number.overflow else
     Along (line c (principal_direction m))
 
 -- n points and as many weights, all finite
@@ -70,26 +69,26 @@ unfoldable pub fit_finite : ℕ → (xs ys ws : List Float) → Fitted
 fit_finite n xs ys ws =
     let total = sum_to n (at ws) in
     let c = source (mean n xs ws total) (mean n ys ws total) in
-    if total ≼ f0 then Refused number.weight else
-    if not (all_to n (λ i. not (at ws i ≺ f0))) then Refused number.weight else
+    when total ≼ f0 then Refused number.weight else
+    when not (all_to n (λ i. not (at ws i ≺ f0))) then Refused number.weight else
     fit_moments c (scatter n xs ys ws c)
 
 -- n points and as many weights
 unfoldable pub fit_paired : ℕ → (xs ys ws : List Float) → Fitted
 fit_paired n xs ys ws =
-    if not (finite_to n xs) then Refused number.finite else
-    if not (finite_to n ys) then Refused number.finite else
-    if not (finite_to n ws) then Refused number.finite else
+    when not (finite_to n xs) then Refused number.finite else
+    when not (finite_to n ys) then Refused number.finite else
+    when not (finite_to n ws) then Refused number.finite else
     fit_finite n xs ys ws
 
 -- the points (x, y), a list of each coordinate, and their weights
 unfoldable pub fit_line : (xs ys ws : List Float) → Fitted
 fit_line xs ys ws =
     let n = length xs in
-    if ltb n 2 then Refused number.points else
-    if ltb (length ys) 2 then Refused number.points else
-    if not (eqb n (length ys)) then Refused number.pairing else
-    if not (eqb n (length ws)) then Refused number.pairing else
+    when ltb n 2 then Refused number.points else
+    when ltb (length ys) 2 then Refused number.points else
+    when not (eqb n (length ys)) then Refused number.pairing else
+    when not (eqb n (length ws)) then Refused number.pairing else
     fit_paired n xs ys ws
 
 -- ---- what an answer says: document 01's number, and the values

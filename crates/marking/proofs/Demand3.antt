@@ -10,7 +10,7 @@ use mathlib.Core.List.{List, ◌++◌}
 use lib.Dec.{T}
 use lib.ListN.{length, get_or, take, drop}
 use lib.Seq.{get_or-take, take_at, drop_at}
-use Rattle.prelude.specs.Prelude.{if◌then◌else◌, bit}
+use Rattle.prelude.specs.Prelude.{when◌then◌else◌, bit}
 use Rattle.number.specs.Numbers as number
 use Rattle.photograph.specs.Photographs.{Photo, pixel}
 use Rattle.pixel.proofs.Places.{place-lt}
@@ -104,7 +104,7 @@ module _ (r : Request) (grid : List ℕ) where
 
     -- bytes that begin with the copy have the photograph's value where the pixel is read, else 0
     over_at : (bytes : List ℕ) → take (area r) bytes ≡ copy_of a → x < r.width → y < r.height
-        → at r grid bytes x y ≡ (if is_read x y (reads_in r grid a) then seen a x y else 0)
+        → at r grid bytes x y ≡ (when is_read x y (reads_in r grid a) then seen a x y else 0)
     over_at bytes begins hx hy =
         front_at (area r) bytes (copy_of a) (y * r.width + x) begins (place-lt r.width r.height x y hx hy)
         ∙ copy_at r.width r.height (seen a) (reads_in r grid a) x y hx hy
@@ -177,7 +177,7 @@ module _ (r : Request) (grid : List ℕ) where
     over_agrees over x y hx hy one =
         ap (λ (s : ℕ). get_or b.photograph.bytes (y * s + x) 0) over.stride
         ∙ over_at a x y b.photograph.bytes (over.bytes ∙ copy-front a) hx hy
-        ∙ ap (λ (k : Bool). if k then seen a x y else 0) (is_true (is_read x y (reads_in r grid a)) (one_read a x y hx hy one))
+        ∙ ap (λ (k : Bool). when k then seen a x y else 0) (is_true (is_read x y (reads_in r grid a)) (one_read a x y hx hy one))
 
     -- so a call over it leaves the same
     copy_again : OverTheCopy r grid a b → SameMarks r grid a b

@@ -8,7 +8,7 @@ use borrow.Author.Tests.{leb-true, le-leb, lt-leb, ne_eqb}
 use Rattle.prelude.proofs.Checks.{behind, zero_exactly, all_zero}
 use Rattle.prelude.specs.Checks.{check}
 use Rattle.prelude.proofs.Tests.{both}
-use Rattle.prelude.specs.Prelude.{if◌then◌else◌}
+use Rattle.prelude.specs.Prelude.{when◌then◌else◌}
 use Rattle.number.specs.Numbers as number
 use Rattle.request.specs.declared.Request.{Request}
 use Rattle.request.specs.Requests.{Photograph, entry_checks, entry}
@@ -19,7 +19,7 @@ use Rattle.marking.specs.Marking.{area, marking_entry}
 module _ (r : Request) (ms : List ℕ) (p : Photograph) (s c : ℕ) where
   -- it comes behind the others
   pub marking-entry : marking_entry r ms p s c
-      ≡ (if eqb (entry r ms p) number.answer then if leb (area r) s && leb (area r) c then number.answer else number.sheet else entry r ms p)
+      ≡ (when eqb (entry r ms p) number.answer then when leb (area r) s && leb (area r) c then number.answer else number.sheet else entry r ms p)
   unfolding marking_entry entry
   marking-entry = behind (entry_checks r ms p) (check number.sheet (leb (area r) s && leb (area r) c) ∷ []) refl
 

@@ -3,7 +3,7 @@
 -- proofs/Demand3 proves it of every request, so with and without a camera, refused behind the entry
 -- checks or not.
 use Rattle.std.specs.Prelude.{◌≡◌, ◌↔◌, ℕ, ◌+◌, ◌*◌, ◌≤◌, ◌<◌, true, List, length, get_or, take, drop}
-use Rattle.prelude.specs.Prelude.{if◌then◌else◌, bit}
+use Rattle.prelude.specs.Prelude.{when◌then◌else◌, bit}
 use Rattle.number.specs.Numbers as number
 use Rattle.photograph.specs.Photographs.{Pixel}
 use Rattle.sample_tree.specs.Sheets.{is_read}
@@ -54,7 +54,7 @@ module _ (r : Request) (grid : List ℕ) where
   pub record Demand3 : Type 0 where
     -- 1. a call marks exactly the pixels that the definition lists as read, which all lie in the picture, and copies those alone
     pub marked : (a : Call) (x y : ℕ) → x < r.width → y < r.height → at a.sheet' x y ≡ bit (is_read x y (reads_in a))
-    pub copied : (a : Call) (x y : ℕ) → x < r.width → y < r.height → at a.copy' x y ≡ (if is_read x y (reads_in a) then shown a.photograph x y else 0)
+    pub copied : (a : Call) (x y : ℕ) → x < r.width → y < r.height → at a.copy' x y ≡ (when is_read x y (reads_in a) then shown a.photograph x y else 0)
     pub inside : (a : Call) (x y : ℕ) → is_read x y (reads_in a) ≡ true → (x < r.width) × (y < r.height)
     -- and bytes past width × height are untouched
     pub sheet_untouched : (a : Call) → drop (area r) a.sheet' ≡ drop (area r) a.sheet

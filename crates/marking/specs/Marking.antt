@@ -3,7 +3,7 @@
 -- the function behind the checks promises and asks.
 use Rattle.std.specs.Prelude.{◌≡◌, ℕ, ◌*◌, ◌≤◌, true, ◌&&◌, List, [], ◌∷◌, ◌++◌, leb, eqb, length, drop}
 use Rattle.prelude.specs.Checks.{check, first}
-use Rattle.prelude.specs.Prelude.{if◌then◌else◌}
+use Rattle.prelude.specs.Prelude.{when◌then◌else◌}
 use Rattle.number.specs.Numbers as number
 use Rattle.photograph.specs.Photographs.{Photo, good_size}
 use Rattle.footprint.specs.declared.Scene.{Scene}
@@ -37,15 +37,15 @@ module _ (r : Request) (ms : List ℕ) (p : Photograph) (s c : List ℕ) where
 
   -- what it returns
   unfoldable pub refine_marking : Answer
-  refine_marking = if eqb marking_number number.answer then result r ms p else refused marking_number
+  refine_marking = when eqb marking_number number.answer then result r ms p else refused marking_number
 
   -- the sheet after it
   unfoldable pub sheet_after : List ℕ
-  sheet_after = if eqb marking_number number.answer then Sheets.sheet r.width r.height (reads_of r ms p) ++ drop (area r) s else s
+  sheet_after = when eqb marking_number number.answer then Sheets.sheet r.width r.height (reads_of r ms p) ++ drop (area r) s else s
 
   -- the copy after it
   unfoldable pub copy_after : List ℕ
-  copy_after = if eqb marking_number number.answer then Sheets.copy r.width r.height (shown p) (reads_of r ms p) ++ drop (area r) c else c
+  copy_after = when eqb marking_number number.answer then Sheets.copy r.width r.height (shown p) (reads_of r ms p) ++ drop (area r) c else c
 
 -- What a marking call promises: it returns a, and takes the sheet from s to s' and the copy from c to c'.
 pub record Marks (r : Request) (ms : List ℕ) (p : Photograph) (a : Answer) (s s' c c' : List ℕ) : Type 0 where

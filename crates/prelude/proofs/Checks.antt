@@ -8,7 +8,7 @@ use mathlib.Core.Bool.{Bool, true, false, not, ◌&&◌, true≢false}
 use mathlib.Core.List.{List, [], ◌∷◌, ◌++◌}
 use lib.Dec.{eqb, eqb-suc-zero}
 use borrow.Author.Tests.{eq-eqb, ne_eqb, not-true}
-use Rattle.prelude.specs.Prelude.{if◌then◌else◌}
+use Rattle.prelude.specs.Prelude.{when◌then◌else◌}
 use Rattle.prelude.specs.Checks.{Check, first, all_pass, numbered}
 use Rattle.prelude.proofs.Tests.{both}
 
@@ -20,7 +20,7 @@ all-where_zero (c ∷ cs) named h =
     let names = both (not (eqb c.number 0)) (numbered cs) named in
     go c.passes c.number (not-true (eqb c.number 0) names.0) h (all-where_zero cs names.1)
   where
-    go : (b : Bool) (n : ℕ) → eqb n 0 ≡ false → (if b then first cs else n) ≡ 0 → (first cs ≡ 0 → all_pass cs ≡ true) → (b && all_pass cs) ≡ true
+    go : (b : Bool) (n : ℕ) → eqb n 0 ≡ false → (when b then first cs else n) ≡ 0 → (first cs ≡ 0 → all_pass cs ≡ true) → (b && all_pass cs) ≡ true
     go true n z h rest = rest h
     go false n z h rest = absurd (true≢false (sym (eq-eqb n 0 h) ∙ z))
 
@@ -28,7 +28,7 @@ zero_where-all : (cs : List Check) → all_pass cs ≡ true → first cs ≡ 0
 zero_where-all [] h = refl
 zero_where-all (c ∷ cs) h = go c.passes h (zero_where-all cs)
   where
-    go : (b : Bool) → (b && all_pass cs) ≡ true → (all_pass cs ≡ true → first cs ≡ 0) → (if b then first cs else c.number) ≡ 0
+    go : (b : Bool) → (b && all_pass cs) ≡ true → (all_pass cs ≡ true → first cs ≡ 0) → (when b then first cs else c.number) ≡ 0
     go true h rest = rest h
     go false h rest = absurd (true≢false (sym h))
 
@@ -37,14 +37,14 @@ zero_exactly cs named = (all-where_zero cs named, zero_where-all cs)
 
 -- ---- more checks behind
 
-pub behind : (cs ds : List Check) → numbered cs ≡ true → first (cs ++ ds) ≡ (if eqb (first cs) 0 then first ds else first cs)
+pub behind : (cs ds : List Check) → numbered cs ≡ true → first (cs ++ ds) ≡ (when eqb (first cs) 0 then first ds else first cs)
 behind [] ds named = refl
 behind (c ∷ cs) ds named =
     let names = both (not (eqb c.number 0)) (numbered cs) named in
     go c.passes _ (first cs) (first ds) c.number (not-true (eqb c.number 0) names.0) (behind cs ds names.1)
   where
-    go : (b : Bool) (all front last n : ℕ) → eqb n 0 ≡ false → all ≡ (if eqb front 0 then last else front)
-        → (if b then all else n) ≡ (if eqb (if b then front else n) 0 then last else if b then front else n)
+    go : (b : Bool) (all front last n : ℕ) → eqb n 0 ≡ false → all ≡ (when eqb front 0 then last else front)
+        → (when b then all else n) ≡ (when eqb (when b then front else n) 0 then last else when b then front else n)
     go true all front last n z more = more
     go false all front last n z more = rw z
 
@@ -60,7 +60,7 @@ passed_before cs ds named pass = behind cs ds named ∙ rw (eq-eqb (first cs) 0 
 pub all_zero : (cs ds : List Check) → numbered cs ≡ true → first (cs ++ ds) ≡ 0 → (first cs ≡ 0) × (first ds ≡ 0)
 all_zero cs ds named h = go (first cs) (first ds) (sym (behind cs ds named) ∙ h)
   where
-    go : (n m : ℕ) → (if eqb n 0 then m else n) ≡ 0 → (n ≡ 0) × (m ≡ 0)
+    go : (n m : ℕ) → (when eqb n 0 then m else n) ≡ 0 → (n ≡ 0) × (m ≡ 0)
     go zero m h = (refl, h)
     go (suc n) m h = absurd (never (rw (eqb-suc-zero n) at h))
       where

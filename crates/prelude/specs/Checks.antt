@@ -2,7 +2,7 @@
 -- checks and leaf calls are lists of these. Definitions only, to be believed; `all_pass` and
 -- `numbered` are what the laws in proofs/Checks say of such a list.
 use Rattle.std.specs.Prelude.{ℕ, Bool, true, not, ◌&&◌, List, [], ◌∷◌, eqb}
-use Rattle.prelude.specs.Prelude.{if◌then◌else◌}
+use Rattle.prelude.specs.Prelude.{when◌then◌else◌}
 
 pub record Check : Type 0 where
   pub number : ℕ
@@ -14,7 +14,7 @@ check n b = record { number = n; passes = b }
 -- the number of the first check that fails, and 0 where none does
 abbrev pub first : List Check → ℕ
 first [] = 0
-first (c ∷ cs) = if c.passes then first cs else c.number
+first (c ∷ cs) = when c.passes then first cs else c.number
 
 abbrev pub all_pass : List Check → Bool
 all_pass [] = true

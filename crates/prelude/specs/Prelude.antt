@@ -2,11 +2,11 @@
 -- value as a number, and a list made by a rule. Definitions only, to be believed.
 use Rattle.std.specs.Prelude.{ℕ, zero, suc, Bool, true, false, List, [], ◌∷◌}
 
--- `if a then b else` on lines one under another reads as the Rust's early returns
-infixr 10 if◌then◌else◌
-abbrev pub if◌then◌else◌ {ℓ} : {A : Type ℓ} → Bool → A → A → A
-if true then a else b = a
-if false then a else b = b
+-- `when a then b else` on lines one under another reads as the Rust's early returns
+infixr 10 when◌then◌else◌
+abbrev pub when◌then◌else◌ {ℓ} : {A : Type ℓ} → Bool → A → A → A
+when true then a else b = a
+when false then a else b = b
 
 -- 1 for true, 0 for false
 abbrev pub bit : Bool → ℕ

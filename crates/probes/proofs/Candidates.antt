@@ -10,14 +10,14 @@ use mathlib.Core.Logic.{◌⊎◌, inl, inr, ⊎_elim}
 use mathlib.Core.List.{List, [], ◌∷◌, ◌++◌, append_assoc, append-nil}
 use lib.ListN.{length, length-append, drop}
 use lib.Seq.{drop-append-add, drop-nil}
-use Rattle.prelude.specs.Prelude.{if◌then◌else◌}
+use Rattle.prelude.specs.Prelude.{when◌then◌else◌}
 use Rattle.consts.specs.declared.Settings.{Settings}
 use Rattle.grid.specs.Grids.{Grid, border_dark}
 use Rattle.probes.specs.Probes.{near_end, candidate_at, module_candidates, candidates_from, candidates}
 use Rattle.probes.specs.Places.{fraction_at, place_at, probe_at, candidate, candidates_of, onward, Sought}
 use Rattle.probes.specs.declared.Probe.{Probe}
 
-pair : (dark : Bool) (x y : List Probe) → (if dark then x else []) ++ (if dark then y else []) ≡ (if dark then x ++ y else [])
+pair : (dark : Bool) (x y : List Probe) → (when dark then x else []) ++ (when dark then y else []) ≡ (when dark then x ++ y else [])
 pair true x y = refl
 pair false x y = refl
 
@@ -70,7 +70,7 @@ module _ (s : Settings) (g : Grid) (e : ℕ) where
   one_or_none j = go (border_dark g e (j / 2)) (near_end s g.dim (place_at s j))
     where
       at : Bool → Bool → List Probe
-      at dark near = if dark then (if near then [] else probe_at s g e j ∷ []) else []
+      at dark near = when dark then (when near then [] else probe_at s g e j ∷ []) else []
 
       go : (dark near : Bool) → (at dark near ≡ probe_at s g e j ∷ []) ⊎ (at dark near ≡ [])
       go true true = inr refl

@@ -7,7 +7,7 @@ use mathlib.Core.Bool.{Bool, true, false}
 use mathlib.Core.List.{List}
 use lib.Dec.{eqb}
 use lib.ListN.{get_or}
-use Rattle.prelude.specs.Prelude.{if◌then◌else◌}
+use Rattle.prelude.specs.Prelude.{when◌then◌else◌}
 use Rattle.pixel.proofs.Places.{row-most}
 use Rattle.grid.specs.Grids.{grid_of, by_side, dark, edge_dark, border_dark, inward_dark}
 use Rattle.probes.specs.Places.{start_of, stride_of, layout_of, IsLayout, dark_at}
@@ -18,7 +18,7 @@ each_side : {A : Type 0} (e : ℕ) (P : A → ℕ → ℕ → Type 0) {a b c d :
     → P (by_side e a b c d) (by_side e i j k l) (by_side e m n o p)
 each_side e P {a} {b} {c} {d} {i} {j} {k} {l} {m} {n} {o} {p} top right bottom left = go (eqb e 0) (eqb e 1) (eqb e 2)
   where
-    go : (t r u : Bool) → P (if t then a else if r then b else if u then c else d) (if t then i else if r then j else if u then k else l) (if t then m else if r then n else if u then o else p)
+    go : (t r u : Bool) → P (when t then a else when r then b else when u then c else d) (when t then i else when r then j else when u then k else l) (when t then m else when r then n else when u then o else p)
     go true r u = top
     go false true u = right
     go false false true = bottom

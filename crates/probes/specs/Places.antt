@@ -1,7 +1,7 @@
 -- The places of an edge, two in each module and counted from its start: what the two passes over them promise. Definitions only.
 -- Internal: contracts inside the crate cite it, no public one does, and nothing here has to be believed.
 use Rattle.std.specs.Prelude.{◌≡◌, ℕ, zero, suc, ◌+◌, ◌-◌, ◌*◌, ◌/◌, ◌%◌, ◌≤◌, ◌<◌, Bool, not, List, [], ◌∷◌, ◌++◌, eqb, length, take, drop, replicate, get_or, Float}
-use Rattle.prelude.specs.Prelude.{if◌then◌else◌}
+use Rattle.prelude.specs.Prelude.{when◌then◌else◌}
 use Rattle.ieee.specs.Floats.{◌⊕◌, ◌⊘◌, float}
 use Rattle.consts.specs.Consts.{max_edge_points}
 use Rattle.consts.specs.declared.Settings.{Settings}
@@ -36,7 +36,7 @@ dark_at ms first step m = eqb (get_or ms (first + m * step) 0) 1
 
 -- the fraction of its module at which place j lies
 unfoldable pub fraction_at : Settings → ℕ → Float
-fraction_at s j = if eqb (j % 2) 0 then s.probe_fraction_first else s.probe_fraction_second
+fraction_at s j = when eqb (j % 2) 0 then s.probe_fraction_first else s.probe_fraction_second
 
 -- where place j lies, in modules
 abbrev pub place_at : Settings → ℕ → Float
@@ -47,7 +47,7 @@ probe_at s g e j = record { t = place_at s j ⊘ float g.dim; inward_differs = n
 
 -- the candidate at place j, if there is one
 unfoldable pub candidate : Settings → Grid → ℕ → ℕ → List Probe
-candidate s g e j = if border_dark g e (j / 2) then candidate_at s g e (j / 2) (fraction_at s j) else []
+candidate s g e j = when border_dark g e (j / 2) then candidate_at s g e (j / 2) (fraction_at s j) else []
 
 -- those of n places from j on
 unfoldable pub candidates_of : Settings → Grid → ℕ → ℕ → ℕ → List Probe

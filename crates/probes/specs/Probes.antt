@@ -1,7 +1,7 @@
 -- refine.rs, the selection of probes (531 to 561): two in each dark border module of the middle of an
 -- edge, decimated to a limit; and what an array of probes holds. Definitions only, to be believed.
 use Rattle.std.specs.Prelude.{◌≡◌, ℕ, zero, suc, ◌+◌, ◌-◌, ◌/◌, ◌%◌, ◌≤◌, min, Bool, false, not, ◌||◌, List, [], ◌∷◌, ◌++◌, ltb, eqb, length, take, drop, replicate, Float}
-use Rattle.prelude.specs.Prelude.{if◌then◌else◌}
+use Rattle.prelude.specs.Prelude.{when◌then◌else◌}
 use Rattle.ieee.specs.Floats.{◌⊕◌, ◌⊖◌, ◌⊘◌, ◌≺◌, float, f0}
 use Rattle.consts.specs.Consts.{max_edge_points}
 use Rattle.consts.specs.declared.Settings.{Settings}
@@ -19,12 +19,12 @@ near_end s dim at = (at ≺ s.edge_margin_modules) || (float dim ⊖ s.edge_marg
 unfoldable pub candidate_at : Settings → Grid → ℕ → ℕ → Float → List Probe
 candidate_at s g e m fraction =
     let at = float m ⊕ fraction in
-    if near_end s g.dim at then [] else
+    when near_end s g.dim at then [] else
     record { t = at ⊘ float g.dim; inward_differs = not (inward_dark g e m) } ∷ []
 
 unfoldable pub module_candidates : Settings → Grid → ℕ → ℕ → List Probe
 module_candidates s g e m =
-    if border_dark g e m then candidate_at s g e m s.probe_fraction_first ++ candidate_at s g e m s.probe_fraction_second else []
+    when border_dark g e m then candidate_at s g e m s.probe_fraction_first ++ candidate_at s g e m s.probe_fraction_second else []
 
 -- those of n modules from m on, behind those that there are
 unfoldable pub candidates_from : Settings → Grid → ℕ → ℕ → ℕ → List Probe → List Probe
@@ -39,7 +39,7 @@ candidates s g e = candidates_from s g e g.dim 0 []
 -- of a list whose first has place i, those whose place is a multiple of k
 unfoldable pub every_from : ℕ → ℕ → List Probe → List Probe
 every_from k i [] = []
-every_from k i (x ∷ xs) = if eqb (i % k) 0 then x ∷ every_from k (suc i) xs else every_from k (suc i) xs
+every_from k i (x ∷ xs) = when eqb (i % k) 0 then x ∷ every_from k (suc i) xs else every_from k (suc i) xs
 
 -- the ceiling of n / most
 unfoldable pub decimation : ℕ → ℕ → ℕ
@@ -47,7 +47,7 @@ decimation n most = (n + (most - 1)) / most
 
 -- at most so many: beyond that every k-th, k the ceiling of how often they fit
 unfoldable pub decimated : ℕ → List Probe → List Probe
-decimated most ps = if ltb most (length ps) then take most (every_from (decimation (length ps) most) 0 ps) else ps
+decimated most ps = when ltb most (length ps) then take most (every_from (decimation (length ps) most) 0 ps) else ps
 
 -- ---- the probes of an edge
 

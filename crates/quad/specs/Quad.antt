@@ -1,7 +1,7 @@
 -- homography.rs: the map of the unit square to four corners (28 to 71), and of one quad to another (210 to
 -- 214), in the Rust's order of operations. Definitions only, to be believed.
 use Rattle.std.specs.Prelude.{◌&&◌, List, Float}
-use Rattle.prelude.specs.Prelude.{if◌then◌else◌}
+use Rattle.prelude.specs.Prelude.{when◌then◌else◌}
 use Rattle.number.specs.Numbers as number
 use Rattle.ieee.specs.Floats.{◌⊕◌, ◌⊖◌, ◌⊗◌, ◌⊘◌, ◌≐◌, f0, f1}
 use Rattle.pixel.specs.Pixels.{corner}
@@ -18,7 +18,7 @@ use Rattle.quad.specs.declared.MapAnswer.{MapAnswer}
 unfoldable pub affine : (x0 y0 x1 y1 x2 y2 x3 y3 : Float) → Mapped
 affine x0 y0 x1 y1 x2 y2 x3 y3 =
     let cross = (x1 ⊖ x0) ⊗ (y3 ⊖ y0) ⊖ (y1 ⊖ y0) ⊗ (x3 ⊖ x0) in
-    if cross ≐ f0 then NoMap else
+    when cross ≐ f0 then NoMap else
     By (record {
       a11 = x1 ⊖ x0;
       a21 = x2 ⊖ x1;
@@ -41,7 +41,7 @@ projective x0 y0 x1 y1 x2 y2 x3 y3 dx3 dy3 =
     let den = dx1 ⊗ dy2 ⊖ dx2 ⊗ dy1 in
     let a13 = (dx3 ⊗ dy2 ⊖ dx2 ⊗ dy3) ⊘ den in
     let a23 = (dx1 ⊗ dy3 ⊖ dx3 ⊗ dy1) ⊘ den in
-    if den ≐ f0 then NoMap else
+    when den ≐ f0 then NoMap else
     By (record {
       a11 = x1 ⊖ x0 ⊕ a13 ⊗ x1;
       a21 = x3 ⊖ x0 ⊕ a23 ⊗ x3;
@@ -58,7 +58,7 @@ unfoldable pub quad_map : (x0 y0 x1 y1 x2 y2 x3 y3 : Float) → Mapped
 quad_map x0 y0 x1 y1 x2 y2 x3 y3 =
     let dx3 = x0 ⊖ x1 ⊕ x2 ⊖ x3 in
     let dy3 = y0 ⊖ y1 ⊕ y2 ⊖ y3 in
-    if (dx3 ≐ f0) && (dy3 ≐ f0)
+    when (dx3 ≐ f0) && (dy3 ≐ f0)
     then affine x0 y0 x1 y1 x2 y2 x3 y3
     else projective x0 y0 x1 y1 x2 y2 x3 y3 dx3 dy3
 

@@ -1,7 +1,7 @@
 -- refine.rs, `refine_corners` (662) and `refine_corners_mapped` (683): what the calls return. Definitions
 -- only, to be believed; `task_of` is internal, the request as the inner functions take it.
 use Rattle.std.specs.Prelude.{ℕ, List, eqb, take}
-use Rattle.prelude.specs.Prelude.{if◌then◌else◌}
+use Rattle.prelude.specs.Prelude.{when◌then◌else◌}
 use Rattle.number.specs.Numbers as number
 use Rattle.photograph.specs.Photographs.{Pixel}
 use Rattle.sample_tree.specs.SampleTree.{SampleTree, value, reads}
@@ -35,4 +35,4 @@ reads_of r ms p = reads (scene_of r) (shown p) (refinement r ms)
 -- ---- the refinement call
 
 unfoldable pub refine : Request → List ℕ → Photograph → Answer
-refine r ms p = if eqb (entry r ms p) number.answer then result r ms p else refused (entry r ms p)
+refine r ms p = when eqb (entry r ms p) number.answer then result r ms p else refused (entry r ms p)

@@ -6,7 +6,7 @@
 use Rattle.std.specs.Prelude.{ℕ, Bool, false, List, [], ◌∷◌, ◌++◌, eqb, get_or}
 use Rattle.std.specs.Float.{binary64}
 use Rattle.std.specs.Float.Ieee.{to_bits}
-use Rattle.prelude.specs.Prelude.{if◌then◌else◌, bit}
+use Rattle.prelude.specs.Prelude.{when◌then◌else◌, bit}
 use Rattle.number.specs.Numbers as number
 use Rattle.text.specs.Text.{decimal, hexadecimal}
 use Rattle.pixel.specs.Pixels.{corner}
@@ -54,5 +54,5 @@ edge_lines r = each_of_four (λ i. edge_line i (get_or r.edge_stats i (stat 0 0 
 
 unfoldable pub answer_lines : Answer → List ℕ
 answer_lines a =
-    if eqb a.number number.answer then result_line a.number ++ (corner_lines a.refined ++ edge_lines a.refined) else
+    when eqb a.number number.answer then result_line a.number ++ (corner_lines a.refined ++ edge_lines a.refined) else
     result_line a.number

@@ -4,7 +4,7 @@
 -- what was written where counts are below 256 and corners are binary64 values.
 --   16 corners   17 four times probed, fit, dropped, valid   18 four flags
 use Rattle.std.specs.Prelude.{ℕ, ◌+◌, ◌*◌, ◌%◌, Bool, List, [], ◌∷◌, ◌++◌, leb, eqb, length, drop}
-use Rattle.prelude.specs.Prelude.{if◌then◌else◌, bit}
+use Rattle.prelude.specs.Prelude.{when◌then◌else◌, bit}
 use Rattle.pixel.specs.Pixels.{source}
 use Rattle.pixel.specs.declared.SourcePixel.{SourcePixel}
 use Rattle.fit.specs.declared.EdgeStat.{EdgeStat}
@@ -53,4 +53,4 @@ read_result card = record {
 
 -- the card stands at its front, with what was behind it there; a buffer of under 93 bytes is left as it was
 unfoldable pub with_card : RefinedCorners → List ℕ → List ℕ
-with_card r out = if leb 93 (length out) then result_card r ++ drop 93 out else out
+with_card r out = when leb 93 (length out) then result_card r ++ drop 93 out else out

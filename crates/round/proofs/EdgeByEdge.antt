@@ -8,7 +8,7 @@ use mathlib.Core.Bool.{Bool}
 use mathlib.Core.List.{List}
 use lib.Dec.{eqb}
 use borrow.Author.Tests.{eq-eqb, ne_eqb}
-use Rattle.prelude.specs.Prelude.{if◌then◌else◌}
+use Rattle.prelude.specs.Prelude.{when◌then◌else◌}
 use Rattle.pixel.specs.declared.SourcePixel.{SourcePixel}
 use Rattle.homography.specs.declared.PerspectiveTransform.{PerspectiveTransform}
 use Rattle.sample_tree.specs.SampleTree.{SampleTree, done}
@@ -37,7 +37,7 @@ module _ {S : Type 0} (ask : Sampler S) (plan : Plan) (ms : List ℕ) (m : Persp
   module _ {i : ℕ} (got : Edges) {got' : Edges} {fit : EdgeFit} {t₀ t t' : S}
       (few : i < 4) (before : Left t₀ i got t) {side : Side} (is : side ≡ side_of m q i) (ran : Runs ask (edge plan ms side) fit t t')
       (put : got' ≡ with_edge i got fit) where
-    by_number : {b : Bool} → eqb got'.number 0 ≡ b → Leads ask (from 4 0 no_edges) t₀ (if b then from (4 - (i + 1)) (i + 1) got' else done got') t'
+    by_number : {b : Bool} → eqb got'.number 0 ≡ b → Leads ask (from 4 0 no_edges) t₀ (when b then from (4 - (i + 1)) (i + 1) got' else done got') t'
     unfolding edges_from unless_refused
     by_number {b} h =
         let one : 4 - i ≡ suc (4 - suc i) = omega arith in

@@ -1,7 +1,7 @@
 -- refine.rs, `refine_round` (493 to 627), as a tree of samples. Definitions only, to be believed; what
 -- the edges of a round come to is in `corners`.
 use Rattle.std.specs.Prelude.{ℕ, zero, suc, ◌+◌, ◌%◌, List, eqb}
-use Rattle.prelude.specs.Prelude.{if◌then◌else◌}
+use Rattle.prelude.specs.Prelude.{when◌then◌else◌}
 use Rattle.number.specs.Numbers as number
 use Rattle.pixel.specs.Pixels.{corner}
 use Rattle.pixel.specs.declared.SourcePixel.{SourcePixel}
@@ -21,7 +21,7 @@ use Rattle.corners.specs.Corners.{refused, round_end}
 -- ---- the four edges, in turn; the number of one ends them
 
 unfoldable pub unless_refused : (Edges → SampleTree Edges) → Edges → SampleTree Edges
-unless_refused next got = if eqb got.number number.answer then next got else done got
+unless_refused next got = when eqb got.number number.answer then next got else done got
 
 -- edge e goes from its corner to the next
 abbrev pub side_of : PerspectiveTransform → List SourcePixel → ℕ → Side

@@ -7,7 +7,7 @@ use mathlib.Core.Bool.{Bool, true, false}
 use mathlib.Core.List.{List}
 use lib.Dec.{eqb}
 use borrow.Author.Tests.{eq-eqb, ne_eqb}
-use Rattle.prelude.specs.Prelude.{if◌then◌else◌}
+use Rattle.prelude.specs.Prelude.{when◌then◌else◌}
 use Rattle.pixel.specs.declared.SourcePixel.{SourcePixel}
 use Rattle.sample_tree.specs.SampleTree.{SampleTree, done}
 use Rattle.sample_tree.specs.Run.{Sampler, Runs}
@@ -35,14 +35,14 @@ module _ {S : Type 0} (ask : Sampler S) (plan : Plan) (ms : List ℕ) where
     module _ {k : ℕ} (best : Answer) {next : Answer} {t₀ t t' : S}
         (few : k < plan.settings.rounds) (before : Left t₀ k best t) (ran : Runs ask (round plan ms best.refined.corners) next t t') where
       by_answer : {weak good : Bool} → is_weak next ≡ weak → eqb next.number 0 ≡ good
-          → Leads ask whole t₀ (if weak then done best else if good then remaining_rounds plan ms (plan.settings.rounds - (k + 1)) next else done next) t'
+          → Leads ask whole t₀ (when weak then done best else when good then remaining_rounds plan ms (plan.settings.rounds - (k + 1)) next else done next) t'
       unfolding remaining_rounds
       by_answer w o =
           let one : plan.settings.rounds - k ≡ suc (plan.settings.rounds - (k + 1)) = omega arith in
           rw (sym w, sym o)
           (and_then ask (subst (λ (j : ℕ). Leads ask whole t₀ (remaining_rounds plan ms j best) t) one before)
           (called ask (round plan ms best.refined.corners)
-          (λ next. if is_weak next then done best else if eqb next.number 0 then remaining_rounds plan ms (plan.settings.rounds - (k + 1)) next else done next) ran))
+          (λ next. when is_weak next then done best else when eqb next.number 0 then remaining_rounds plan ms (plan.settings.rounds - (k + 1)) next else done next) ran))
 
       pub weak_round : {b : Bool} → b ≡ is_weak next → b ≡ true → Runs ask whole best t₀ t'
       weak_round h w = end ask (by_answer (sym h ∙ w) refl)
@@ -63,11 +63,11 @@ module _ {S : Type 0} (ask : Sampler S) (plan : Plan) (ms : List ℕ) where
 
   module _ (q : List SourcePixel) {first : Answer} {t t' : S} (ran : Runs ask (round plan ms q) first t t') where
     by_first : {good : Bool} → eqb first.number 0 ≡ good
-        → Leads ask (rounds plan ms q) t (if good then remaining_rounds plan ms (plan.settings.rounds - 1) first else done first) t'
+        → Leads ask (rounds plan ms q) t (when good then remaining_rounds plan ms (plan.settings.rounds - 1) first else done first) t'
     unfolding rounds
     by_first o =
         rw (sym o)
-        (called ask (round plan ms q) (λ first. if eqb first.number 0 then remaining_rounds plan ms (plan.settings.rounds - 1) first else done first) ran)
+        (called ask (round plan ms q) (λ first. when eqb first.number 0 then remaining_rounds plan ms (plan.settings.rounds - 1) first else done first) ran)
 
     pub first_stops : (first.number ≡ 0 → ⊥) → Runs ask (rounds plan ms q) first t t'
     first_stops o = end ask (by_first (ne_eqb first.number 0 o))

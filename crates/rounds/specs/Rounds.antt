@@ -1,7 +1,7 @@
 -- refine.rs, the rounds of `refine_corners` (699 to 727), as a tree of samples: each from the corners
 -- of the last. Definitions only, to be believed.
 use Rattle.std.specs.Prelude.{ℕ, zero, suc, ◌-◌, Bool, ◌||◌, List, eqb}
-use Rattle.prelude.specs.Prelude.{if◌then◌else◌}
+use Rattle.prelude.specs.Prelude.{when◌then◌else◌}
 use Rattle.number.specs.Numbers as number
 use Rattle.pixel.specs.declared.SourcePixel.{SourcePixel}
 use Rattle.sample_tree.specs.SampleTree.{SampleTree, done, ◌>>=◌}
@@ -18,11 +18,11 @@ unfoldable pub remaining_rounds : Plan → List ℕ → ℕ → Answer → Sampl
 remaining_rounds p ms zero best = done best
 remaining_rounds p ms (suc n) best = do
   next ← round p ms best.refined.corners
-  if is_weak next then done best else
-      if eqb next.number number.answer then remaining_rounds p ms n next else done next
+  when is_weak next then done best else
+      when eqb next.number number.answer then remaining_rounds p ms n next else done next
 
 -- the first round's refusal is the refinement's
 unfoldable pub rounds : Plan → List ℕ → List SourcePixel → SampleTree Answer
 rounds p ms q = do
   first ← round p ms q
-  if eqb first.number number.answer then remaining_rounds p ms (p.settings.rounds - 1) first else done first
+  when eqb first.number number.answer then remaining_rounds p ms (p.settings.rounds - 1) first else done first

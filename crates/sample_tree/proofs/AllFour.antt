@@ -9,7 +9,7 @@ use mathlib.Core.Bool.{Bool, true, false}
 use lib.Dec.{T}
 use lib.ListN.{get_or}
 use lib.Ieee.Bits.{is_true}
-use Rattle.prelude.specs.Prelude.{if◌then◌else◌, bit}
+use Rattle.prelude.specs.Prelude.{when◌then◌else◌, bit}
 use Rattle.prelude.proofs.Lists.{Each, each_both, each_append}
 use Rattle.pixel.specs.declared.SourcePixel.{SourcePixel}
 use Rattle.photograph.specs.Photographs.{Photo, Pixel}
@@ -83,7 +83,7 @@ module _ (e : Scene) (size : Sized e.width e.height) (p : Photo) (bytes : Bytes 
         marked true false f h = absurd (f tt)
         marked false b f h = absurd (omega arith)
 
-        kept : (a b : Bool) → (T a → T b) → (v : ℕ) → ((if a then v else 0) ≡ 0) ⊎ ((if a then v else 0) ≡ (if b then v else 0))
+        kept : (a b : Bool) → (T a → T b) → (v : ℕ) → ((when a then v else 0) ≡ 0) ⊎ ((when a then v else 0) ≡ (when b then v else 0))
         kept true true f v = inr refl
         kept true false f v = absurd (f tt)
         kept false b f v = inl refl

@@ -9,7 +9,7 @@ use mathlib.Core.Bool.{Bool, true, false}
 use mathlib.Core.List.{List, ◌++◌}
 use lib.Dec.{T}
 use lib.ListN.{get_or, get_or-append}
-use Rattle.prelude.specs.Prelude.{if◌then◌else◌, bit}
+use Rattle.prelude.specs.Prelude.{when◌then◌else◌, bit}
 use Rattle.photograph.specs.Photographs.{Photo, photo, Pixel}
 use Rattle.footprint.specs.declared.Scene.{Scene}
 use Rattle.pixel.proofs.Places.{place-lt}
@@ -82,7 +82,7 @@ module _ {A : Type 0} (e : Scene) (size : Sized e.width e.height) (t : SampleTre
       at-sheet = sym (sheet-at e.width e.height (reads e q t) x y m.0 m.1) ∙ ap (λ (l : List ℕ). get_or l (y * e.width + x) 0) same.sheets
           ∙ sheet-at e.width e.height (reads e p t) x y m.0 m.1
 
-      at_copy : (if is_read x y (reads e q t) then q x y else 0) ≡ (if is_read x y (reads e p t) then p x y else 0)
+      at_copy : (when is_read x y (reads e q t) then q x y else 0) ≡ (when is_read x y (reads e p t) then p x y else 0)
       at_copy = sym (copy_at e.width e.height q (reads e q t) x y m.0 m.1) ∙ ap (λ (l : List ℕ). get_or l (y * e.width + x) 0) same.copies
           ∙ copy_at e.width e.height p (reads e p t) x y m.0 m.1
 
@@ -95,7 +95,7 @@ module _ {A : Type 0} (e : Scene) (size : Sized e.width e.height) (t : SampleTre
       get_or-append (CopyOf e t p) behind 0 (y * e.width + x)
       (subst (λ (n : ℕ). y * e.width + x < n) (sym (length-copy e.width e.height p (reads e p t))) (place-lt e.width e.height x y m.0 m.1))
       ∙ copy_at e.width e.height p (reads e p t) x y m.0 m.1
-      ∙ ap (λ (b : Bool). if b then p x y else 0) (is_true (is_read x y (reads e p t)) m.2)
+      ∙ ap (λ (b : Bool). when b then p x y else 0) (is_true (is_read x y (reads e p t)) m.2)
 
   pub demand_3 : Demand3 e t
   demand_3 = record {

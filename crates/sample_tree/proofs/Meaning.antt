@@ -9,7 +9,7 @@ use lib.ListN.{length, length-set, replicate, length-append, length-replicate}
 use native.Mathlib.Omega.{arith}
 use borrow.Author.Tests.{lt-ltb}
 use Rattle.prelude.proofs.Lists.{Each}
-use Rattle.prelude.specs.Prelude.{if◌then◌else◌}
+use Rattle.prelude.specs.Prelude.{when◌then◌else◌}
 use Rattle.photograph.specs.Photographs.{Photo}
 use Rattle.footprint.specs.Footprints.{scene_footprint}
 use Rattle.sampling.specs.Sampling.{cell_of, pixels_read, interpolate}
@@ -56,8 +56,8 @@ marked_long p w (Cell x0 y0 x1 y1 fx fy) b = go (reach (y1 * w + x1) b)
     cell : CellBytes
     cell = cell_of p x0 y0 x1 y1
 
-    go : (t : Bool) → (length (if t then buffers (written w x0 y0 x1 y1 ones b.sheet) (written w x0 y0 x1 y1 cell b.copy) else b).sheet ≡ length b.sheet)
-        × (length (if t then buffers (written w x0 y0 x1 y1 ones b.sheet) (written w x0 y0 x1 y1 cell b.copy) else b).copy ≡ length b.copy)
+    go : (t : Bool) → (length (when t then buffers (written w x0 y0 x1 y1 ones b.sheet) (written w x0 y0 x1 y1 cell b.copy) else b).sheet ≡ length b.sheet)
+        × (length (when t then buffers (written w x0 y0 x1 y1 ones b.sheet) (written w x0 y0 x1 y1 cell b.copy) else b).copy ≡ length b.copy)
     go true = (length-written w x0 y0 x1 y1 ones b.sheet, length-written w x0 y0 x1 y1 cell b.copy)
     go false = (refl, refl)
 

@@ -14,7 +14,7 @@ use borrow.Author.Tests.{eqb-true, eqb-false}
 use Rattle.prelude.proofs.Tests.{or_left, or_right, and_both}
 use Rattle.prelude.proofs.Tables.{length-table, getD_table, table_ext}
 use Rattle.prelude.proofs.Lists.{Each}
-use Rattle.prelude.specs.Prelude.{if◌then◌else◌, bit, table}
+use Rattle.prelude.specs.Prelude.{when◌then◌else◌, bit, table}
 use Rattle.photograph.specs.Photographs.{Photo, Pixel, pixel}
 use Rattle.pixel.proofs.Places.{place-lt}
 use Rattle.photograph.proofs.Pixels.{Inside, place-column, place-row}
@@ -57,10 +57,10 @@ sheet-at w h rs x y hx hy =
     getD_table (w * h) (λ i. bit (is_read (i % w) (i / w) rs)) (y * w + x) 0 (place-lt w h x y hx hy)
     ∙ rw (place-column w x y hx, place-row w x y hx)
 
-pub copy_at : (w h : ℕ) (p : Photo) (rs : List Pixel) (x y : ℕ) → x < w → y < h → get_or (copy w h p rs) (y * w + x) 0 ≡ (if is_read x y rs then p x y else 0)
+pub copy_at : (w h : ℕ) (p : Photo) (rs : List Pixel) (x y : ℕ) → x < w → y < h → get_or (copy w h p rs) (y * w + x) 0 ≡ (when is_read x y rs then p x y else 0)
 unfolding copy
 copy_at w h p rs x y hx hy =
-    getD_table (w * h) (λ i. if is_read (i % w) (i / w) rs then p (i % w) (i / w) else 0) (y * w + x) 0 (place-lt w h x y hx hy)
+    getD_table (w * h) (λ i. when is_read (i % w) (i / w) rs then p (i % w) (i / w) else 0) (y * w + x) 0 (place-lt w h x y hx hy)
     ∙ rw (place-column w x y hx, place-row w x y hx)
 
 pub length-sheet : (w h : ℕ) (rs : List Pixel) → length (sheet w h rs) ≡ w * h
@@ -69,7 +69,7 @@ length-sheet w h rs = length-table (w * h) (λ i. bit (is_read (i % w) (i / w) r
 
 pub length-copy : (w h : ℕ) (p : Photo) (rs : List Pixel) → length (copy w h p rs) ≡ w * h
 unfolding copy
-length-copy w h p rs = length-table (w * h) (λ i. if is_read (i % w) (i / w) rs then p (i % w) (i / w) else 0)
+length-copy w h p rs = length-table (w * h) (λ i. when is_read (i % w) (i / w) rs then p (i % w) (i / w) else 0)
 
 row_lt : (w h i : ℕ) → 0 < w → i < w * h → i / w < h
 row_lt w h i pos b = (div-lt_iff_lt-mul pos).1 (subst (λ (k : ℕ). i < k) (mul_comm w h) b)
@@ -79,10 +79,10 @@ pub copy_ext : (w h : ℕ) (p q : Photo) (rs : List Pixel) → 0 < w
     → ((x y : ℕ) → x < w → y < h → T (is_read x y rs) → q x y ≡ p x y) → copy w h q rs ≡ copy w h p rs
 unfolding copy
 copy_ext w h p q rs pos f =
-    table_ext (w * h) (λ i. if is_read (i % w) (i / w) rs then q (i % w) (i / w) else 0) (λ i. if is_read (i % w) (i / w) rs then p (i % w) (i / w) else 0)
+    table_ext (w * h) (λ i. when is_read (i % w) (i / w) rs then q (i % w) (i / w) else 0) (λ i. when is_read (i % w) (i / w) rs then p (i % w) (i / w) else 0)
     (λ i b. pick (is_read (i % w) (i / w) rs) (q (i % w) (i / w)) (p (i % w) (i / w)) (λ r. f (i % w) (i / w) (mod-lt i pos) (row_lt w h i pos b) r))
   where
-    pick : (t : Bool) (a c : ℕ) → (T t → a ≡ c) → (if t then a else 0) ≡ (if t then c else 0)
+    pick : (t : Bool) (a c : ℕ) → (T t → a ≡ c) → (when t then a else 0) ≡ (when t then c else 0)
     pick true a c g = g tt
     pick false a c g = refl
 
@@ -94,7 +94,7 @@ pub sheet_white : (w h : ℕ) (rs : List Pixel) → copy w h white rs ≡ sheet 
 unfolding sheet copy
 sheet_white w h rs = table_ext (w * h) _ _ (λ i b. as-bit (is_read (i % w) (i / w) rs))
   where
-    as-bit : (b : Bool) → (if b then 1 else 0) ≡ bit b
+    as-bit : (b : Bool) → (when b then 1 else 0) ≡ bit b
     as-bit true = refl
     as-bit false = refl
 
@@ -116,7 +116,7 @@ module _ (p : Photo) (w : ℕ) where
   length_pasted (c ∷ a) s = length_pasted a (set s (c.row * w + c.column) (p c.column c.row)) ∙ length-set s (c.row * w + c.column) (p c.column c.row)
 
   pasted_at : (a : List Pixel) (s : List ℕ) (h x y : ℕ) → Each (Inside w h) a → x < w → y < h → w * h ≤ length s
-      → get_or (pasted p w a s) (y * w + x) 0 ≡ (if is_read x y a then p x y else get_or s (y * w + x) 0)
+      → get_or (pasted p w a s) (y * w + x) 0 ≡ (when is_read x y a then p x y else get_or s (y * w + x) 0)
   unfolding pasted
   pasted_at [] s h x y ha hx hy hl = refl
   pasted_at (c ∷ a) s h x y ha hx hy hl =
@@ -130,7 +130,7 @@ module _ (p : Photo) (w : ℕ) where
       v = p c.column c.row
 
       settle : (b : Bool) (t : Bool) → eqb x c.column ≡ t → (u : Bool) → eqb y c.row ≡ u
-          → (if b then p x y else get_or (set s i v) (y * w + x) 0) ≡ (if (t && u) || b then p x y else get_or s (y * w + x) 0)
+          → (when b then p x y else get_or (set s i v) (y * w + x) 0) ≡ (when (t && u) || b then p x y else get_or s (y * w + x) 0)
       settle true true et true eu = refl
       settle true true et false eu = refl
       settle true false et u eu = refl
@@ -152,9 +152,9 @@ module _ (p : Photo) (w : ℕ) where
       (λ i b. let k : i < w * h = subst (λ (n : ℕ). i < n) long b in
       ap (λ (n : ℕ). get_or (pasted p w a (replicate (w * h) 0)) n 0) (sym (div-add-mod' i w))
       ∙ pasted_at a (replicate (w * h) 0) h (i % w) (i / w) ha (mod-lt i pos) (row_lt w h i pos k) (subst (λ (n : ℕ). w * h ≤ n) (sym (length-replicate (w * h) 0)) (le_refl (w * h)))
-      ∙ ap (λ (z : ℕ). if is_read (i % w) (i / w) a then p (i % w) (i / w) else z)
+      ∙ ap (λ (z : ℕ). when is_read (i % w) (i / w) a then p (i % w) (i / w) else z)
       (ap (λ (n : ℕ). get_or (replicate (w * h) 0) n 0) (div-add-mod' i w) ∙ get_or-replicate (w * h) i 0 0 k)
-      ∙ sym (getD_table (w * h) (λ i. if is_read (i % w) (i / w) a then p (i % w) (i / w) else 0) i 0 k))
+      ∙ sym (getD_table (w * h) (λ i. when is_read (i % w) (i / w) a then p (i % w) (i / w) else 0) i 0 k))
     where
       long : length (pasted p w a (replicate (w * h) 0)) ≡ w * h
       long = length_pasted a (replicate (w * h) 0) ∙ length-replicate (w * h) 0

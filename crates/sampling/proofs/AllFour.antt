@@ -7,7 +7,7 @@ use mathlib.Core.Bool.{Bool, true, false}
 use lib.IntN.{pos}
 use lib.Ieee.{Float, binary64}
 use lib.Ieee.Fits.{add-fits, mul-fits, of_int-fits}
-use Rattle.prelude.specs.Prelude.{if◌then◌else◌}
+use Rattle.prelude.specs.Prelude.{when◌then◌else◌}
 use Rattle.prelude.proofs.Lists.{Each}
 use Rattle.ieee.specs.Floats.{◌⊕◌, ◌⊖◌, ◌⊗◌, ◌≐◌, f0, float, whole_part}
 use Rattle.ieee.proofs.Magnitudes.{Within, within_more, add_within, sub_within, mul_within, float_within}
@@ -71,23 +71,23 @@ module _ (p : Photo) (bytes : Bytes p) (x0 y0 : ℕ) (fx fy : Float) where
   blend x1 y1 = bilinear (p x0 y0) (p x1 y0) (p x0 y1) (p x1 y1) fx fy
 
   -- the right column is the left one only where it bears no weight
-  same_columns : (x1 x2 y1 : ℕ) → x1 ≡ (if fx ≐ f0 then x0 else x2) → blend x1 y1 ≡ blend x2 y1
+  same_columns : (x1 x2 y1 : ℕ) → x1 ≡ (when fx ≐ f0 then x0 else x2) → blend x1 y1 ≡ blend x2 y1
   same_columns x1 x2 y1 e = by (fx ≐ f0) refl e
     where
       left : (x : ℕ) → (fx ≐ f0) ≡ true → blend x y1 ≡ float (p x0 y0) ⊕ (float (p x0 y1) ⊖ float (p x0 y0)) ⊗ fy
       left x = left-column (p x0 y0) (p x y0) (p x0 y1) (p x y1) (bytes x0 y0) (bytes x y0) (bytes x0 y1) (bytes x y1) fx fy
 
-      by : (b : Bool) → (fx ≐ f0) ≡ b → x1 ≡ (if b then x0 else x2) → blend x1 y1 ≡ blend x2 y1
+      by : (b : Bool) → (fx ≐ f0) ≡ b → x1 ≡ (when b then x0 else x2) → blend x1 y1 ≡ blend x2 y1
       by true z e = left x1 z ∙ sym (left x2 z)
       by false z e = ap (λ (x : ℕ). blend x y1) e
 
-  same_rows : (x1 y1 y2 : ℕ) → Within (2 ^ 33) fx → y1 ≡ (if fy ≐ f0 then y0 else y2) → blend x1 y1 ≡ blend x1 y2
+  same_rows : (x1 y1 y2 : ℕ) → Within (2 ^ 33) fx → y1 ≡ (when fy ≐ f0 then y0 else y2) → blend x1 y1 ≡ blend x1 y2
   same_rows x1 y1 y2 small e = by (fy ≐ f0) refl e
     where
       upper : (y : ℕ) → (fy ≐ f0) ≡ true → blend x1 y ≡ row (p x0 y0) (p x1 y0) fx
       upper y = upper_row (p x0 y0) (p x1 y0) (p x0 y) (p x1 y) (bytes x0 y0) (bytes x1 y0) (bytes x0 y) (bytes x1 y) fx fy small
 
-      by : (b : Bool) → (fy ≐ f0) ≡ b → y1 ≡ (if b then y0 else y2) → blend x1 y1 ≡ blend x1 y2
+      by : (b : Bool) → (fy ≐ f0) ≡ b → y1 ≡ (when b then y0 else y2) → blend x1 y1 ≡ blend x1 y2
       by true z e = upper y1 z ∙ sym (upper y2 z)
       by false z e = ap (λ (y : ℕ). blend x1 y) e
 
@@ -108,7 +108,7 @@ weighed_part w h Rejected e P r = tt
 weighed_part w h (Border v) e P r = tt
 weighed_part w h (Cell x0 y0 x1 y1 fx fy) e P r = by (fx ≐ f0) (fy ≐ f0) e.0 e.1
   where
-    by : (a b : Bool) → x1 ≡ (if a then x0 else min (x0 + 1) (w - 1)) → y1 ≡ (if b then y0 else min (y0 + 1) (h - 1)) → Each P (cell_pixels x0 y0 x1 y1)
+    by : (a b : Bool) → x1 ≡ (when a then x0 else min (x0 + 1) (w - 1)) → y1 ≡ (when b then y0 else min (y0 + 1) (h - 1)) → Each P (cell_pixels x0 y0 x1 y1)
     by true true ex ey = rw (ex, ey) (r.0, (r.0, (r.0, (r.0, tt))))
     by true false ex ey = rw (ex, ey) (r.0, (r.0, (r.1.1.0, (r.1.1.0, tt))))
     by false true ex ey = rw (ex, ey) (r.0, (r.1.0, (r.0, (r.1.0, tt))))

@@ -1,10 +1,10 @@
 -- What a sample shows, marks and copies: where four pixels lie in a buffer that reaches the last of them, and each case of a footprint. And two photographs that agree on
 -- what a sample reads: it shows nothing but those bytes. Assumes nothing.
-use mathlib.Core.Path.{◌≡◌, refl, sym, ap, ◌∙◌}
+use mathlib.Core.Path.{◌≡◌, refl}
 use Prim.Native.Nat.{ℕ, ◌+◌, ◌*◌, ◌≤◌, ◌<◌}
 use native.Mathlib.Nat.{mul-le-mul_right}
 use native.Mathlib.Omega.{arith}
-use mathlib.Core.Bool.{false, and-false}
+use mathlib.Core.Bool.{and-false}
 use mathlib.Core.List.{List}
 use lib.Dec.{ltb}
 use lib.ListN.{length}
@@ -14,7 +14,6 @@ use Rattle.prelude.proofs.Lists.{Each}
 use Rattle.ieee.specs.Floats.{float}
 use Rattle.photograph.specs.Photographs.{Photo, Pixel}
 use Rattle.sampling.specs.declared.CellBytes.{CellBytes}
-use Rattle.sampling.specs.declared.Sampled.{Sampled}
 use Rattle.sampling.specs.declared.Sampled.TheVariants.{Luma, Outside}
 use Rattle.footprint.specs.declared.Footprint.{Footprint}
 use Rattle.footprint.specs.declared.Footprint.TheVariants.{Rejected, Border, Cell}

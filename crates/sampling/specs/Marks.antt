@@ -1,7 +1,7 @@
 -- The mark sheet and the copy as a sample writes them: a 1 and the photograph's byte at each of its
 -- pixels' places. Definitions only, to be believed.
 use Rattle.std.specs.Prelude.{ℕ, ◌+◌, ◌*◌, ◌≡◌, Bool, ◌&&◌, List, ltb, length, set}
-use Rattle.prelude.specs.Prelude.{if◌then◌else◌}
+use Rattle.prelude.specs.Prelude.{when◌then◌else◌}
 use Rattle.photograph.specs.Photographs.{Photo}
 use Rattle.footprint.specs.declared.Footprint.{Footprint}
 use Rattle.footprint.specs.declared.Footprint.TheVariants.{Rejected, Border, Cell}
@@ -30,7 +30,7 @@ reach i b = ltb i (length b.sheet) && ltb i (length b.copy)
 -- four pixels are marked and copied where both buffers reach the last of them
 unfoldable pub cell_marked : ℕ → ℕ → ℕ → ℕ → ℕ → CellBytes → Buffers → Buffers
 cell_marked w x0 y0 x1 y1 v b =
-    if reach (y1 * w + x1) b then buffers (written w x0 y0 x1 y1 ones b.sheet) (written w x0 y0 x1 y1 v b.copy) else b
+    when reach (y1 * w + x1) b then buffers (written w x0 y0 x1 y1 ones b.sheet) (written w x0 y0 x1 y1 v b.copy) else b
 
 -- what a sample that falls at a footprint makes of them
 unfoldable pub marked : Photo → ℕ → Footprint → Buffers → Buffers

@@ -2,7 +2,7 @@
 -- falls. Definitions only, to be believed; `Ordered` is internal, what the functions that mark ask of
 -- a footprint.
 use Rattle.std.specs.Prelude.{ℕ, ◌≤◌, not, List, [], ◌∷◌, eqb, length, Float}
-use Rattle.prelude.specs.Prelude.{if◌then◌else◌}
+use Rattle.prelude.specs.Prelude.{when◌then◌else◌}
 use Rattle.number.specs.Numbers as number
 use Rattle.ieee.specs.Floats.{◌⊕◌, ◌⊖◌, ◌⊗◌, f0, float}
 use Rattle.photograph.specs.Photographs.{Photo, photo, Pixel, pixel, photograph_number}
@@ -60,5 +60,5 @@ luma_answer Outside = record { number = number.outside; luma = f0 }
 unfoldable pub sample_bilinear : List ℕ → ℕ → ℕ → ℕ → Float → Float → BorderMode → LumaAnswer
 sample_bilinear bytes w h stride x y b =
     let n = photograph_number w h stride (length bytes) in
-    if not (eqb n number.answer) then record { number = n; luma = f0 } else
+    when not (eqb n number.answer) then record { number = n; luma = f0 } else
     luma_answer (interpolate (photo bytes stride) (footprint w h b x y))

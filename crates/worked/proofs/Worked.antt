@@ -7,7 +7,7 @@ use mathlib.Core.Option.{some}
 use lib.Dec.{T, eqb}
 use lib.ListN.{length, replicate}
 use lib.Ieee.{Float, binary64, neg, to_bits}
-use Rattle.prelude.specs.Prelude.{if◌then◌else◌}
+use Rattle.prelude.specs.Prelude.{when◌then◌else◌}
 use Rattle.number.specs.Numbers as number
 use Rattle.ieee.proofs.Opened as Ieee
 use Rattle.ieee_root.proofs.Opened as Root
@@ -89,7 +89,7 @@ refuses n = record { number = n; values = [] }
 
 -- the values of an answer alone
 only : ℕ → List Float → List Float
-only n vs = if eqb n number.answer then vs else []
+only n vs = when eqb n number.answer then vs else []
 
 -- from the origin along the x axis, so that a place there is its offset
 rightwards : Bool → Ray

@@ -1,0 +1,18 @@
+-- `cards::run::run_job` meets its contract: a malformed card is refused, and what another one asks for is run. Assumes nothing.
+use mathlib.Core.Path.{sym, ◌∙◌}
+use borrow.Author.Tests.{not-true, not-false}
+use Rattle.cards.specs.Run.{job_answer}
+use Rattle.cards.proofs.run.run_job.Goals as goal
+use Rattle.std.proofs.Common.{rules}
+
+pub returns-then-not-well_formed : goal.returns-then-not-well_formed
+unfolding job_answer
+returns-then-not-well_formed c =
+    let bad = sym c.well_formed-2.ensures ∙ not-true _ c.if-not-well_formed.true-raw in
+    rw bad c.refused.ensures
+
+pub returns : goal.returns
+unfolding job_answer
+returns c =
+    let good = sym c.well_formed-2.ensures ∙ not-false _ c.if-not-well_formed.false-raw in
+    rw (good, ← c.request_of.ensures, ← c.modules_of.ensures, ← c.part.ensures, ← c.stride_of.ensures) c.refine_corners_mapped.ensures
