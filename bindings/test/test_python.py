@@ -355,6 +355,19 @@ def test_where_the_library_and_its_archives_hash_are_looked_for(root, library, a
     assert said_by(package, LD_LIBRARY_PATH=str(tmp_path / "system")) == f"{package}/libtrufolmesca.so.0 3.0 0123"
 
 
+def test_in_a_repository_the_library_is_the_one_that_is_built_there(root, library, archive, tmp_path):
+    (tmp_path / "tools").mkdir()
+    shutil.copy(root / "tools/setup", tmp_path / "tools/setup")
+    package, built = packaged(tmp_path / "bindings/python", root), tmp_path / "target/lib/libtrufolmesca.so.0"
+    assert said_by(package) == f"the library {built} cannot be used (it is not there): run tools/setup, or install it anew"
+    built.parent.mkdir(parents=True)
+    shutil.copy(library, built)
+    shutil.copy(library.with_name("libtrufolmesca.archive-sha256"), built.parent)
+    assert said_by(package) == f"{built} 3.0 {sha256(archive.read_bytes()).hexdigest()}"
+    (package / "libtrufolmesca.so.0").symlink_to("nowhere")  # as it is installed, the package has its own
+    assert said_by(package).startswith(f"the library {package}/libtrufolmesca.so.0 cannot be used")
+
+
 def test_a_library_that_cannot_be_used_is_said(root, library, tmp_path):
     package = packaged(tmp_path, root)
     (tmp_path / "libtrufolmesca.so.0").write_text("no library, which the loader finds before any that is installed")

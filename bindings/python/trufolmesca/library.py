@@ -11,6 +11,9 @@ import numpy as np
 
 SONAME = "libtrufolmesca.so.0"
 _BESIDE = Path(__file__).resolve().with_name(SONAME)
+# In a repository tools/setup builds it, and the package has none.
+_REPOSITORY = Path(__file__).resolve().parents[3]
+_BUILT = _REPOSITORY / "target" / "lib" / SONAME
 _FOR_THE_LOADER = Path(SONAME)
 
 _U32, _F64, _BOOL, _U8 = ctypes.c_uint32, ctypes.c_double, ctypes.c_bool, ctypes.c_uint8
@@ -48,12 +51,18 @@ class LibraryMissing(OSError):
 
 
 def library_path() -> Path:
-    """The shared object: $TRUFOLMESCA_LIBRARY, else the one in this package, else a name that the loader finds."""
+    """The shared object: $TRUFOLMESCA_LIBRARY, else the one in this package or its repository's, else a name that the loader finds."""
     named = os.environ.get("TRUFOLMESCA_LIBRARY")
     if named:
         return Path(named).absolute()
-    # In a repository it is a link to what tools/setup builds, and leads nowhere before.
-    return _BESIDE if os.path.lexists(_BESIDE) else _FOR_THE_LOADER
+    if os.path.lexists(_BESIDE):
+        return _BESIDE
+    return _BUILT if _in_repository() else _FOR_THE_LOADER
+
+
+def _in_repository() -> bool:
+    """Whether the package stands in a repository, where the shared object is the one that is built there, even before it is."""
+    return (_REPOSITORY / "tools" / "setup").is_file() and (_REPOSITORY / "bindings/python/trufolmesca") == _BESIDE.parent
 
 
 def archive_sha256() -> str | None:
@@ -92,7 +101,7 @@ def _remedy() -> str:
     """What to do where the shared object cannot be used."""
     if os.environ.get("TRUFOLMESCA_LIBRARY"):
         return "TRUFOLMESCA_LIBRARY names it"
-    if _BESIDE.is_symlink():
+    if _BESIDE.is_symlink() or library_path() == _BUILT:
         return "run tools/setup, or install it anew"
     return f"install {SONAME}, or set TRUFOLMESCA_LIBRARY to its path"
 
