@@ -1,4 +1,5 @@
-# The library and its packages; `make help` lists what can be made. All that is made stands under target/.
+# The library and its packages; `make help` lists what can be made. All that is made stands under target/, but for the archive, which
+# the prover leaves in its crate.
 
 PREFIX = /usr/local
 LIBDIR = $(PREFIX)/lib
@@ -8,8 +9,8 @@ VERSION := $(file <VERSION)
 # The soname's number goes up with every change that a linked program would notice.
 SONAME := libtrufolmesca.so.0
 # What rt proves and builds, and what of the sources it is made from.
-ARCHIVE := target/staticlib/libexport.a
-SOURCES := crates.txt $(shell find crates -name '*.rt' -o -name '*.antt')
+ARCHIVE := crates/export/out/libexport.a
+SOURCES := crates.txt $(shell find crates -name out -prune -o \( -name '*.rt' -o -name '*.antt' \) -print)
 LIB := target/lib
 OBJECT := $(LIB)/libtrufolmesca.so.$(VERSION)
 
@@ -37,8 +38,10 @@ $(OBJECT): $(ARCHIVE) packaging/libtrufolmesca.map Makefile | $(LIB)
 	    -Wl,--whole-archive $< -Wl,--no-whole-archive -Wl,-z,defs,-z,relro,-z,now $(LDFLAGS) -lc
 	mv $@.new $@
 
+# Copies, since `rt ci` refuses a repository with a link in it.
 $(LIB)/$(SONAME) $(LIB)/libtrufolmesca.so: $(OBJECT)
-	ln -sf $(<F) $@
+	cp $< $@.new
+	mv $@.new $@
 
 $(LIB)/libtrufolmesca.archive-sha256: $(ARCHIVE) | $(LIB)
 	sha256sum $< | cut -d' ' -f1 >$@.new

@@ -80,10 +80,10 @@ fn installed() -> Option<PathBuf> {
 
 /// The library that the repository around this crate has built.
 fn built(kind: Kind) -> Option<Library> {
-    let target = Path::new(&env::var_os("CARGO_MANIFEST_DIR")?).join("../../target");
+    let top = Path::new(&env::var_os("CARGO_MANIFEST_DIR")?).join("../..");
     // The archive that was proved comes before its copy, which may be older.
-    library_in(&target.join("staticlib"), "export", kind)
-        .or_else(|| library_in(&target.join("lib"), "trufolmesca", kind))
+    library_in(&top.join("crates/export/out"), "export", kind)
+        .or_else(|| library_in(&top.join("target/lib"), "trufolmesca", kind))
 }
 
 /// The library to link.

@@ -28,15 +28,15 @@ def version() -> str:
 @pytest.fixture(scope="session")
 def archive() -> Path:
     """The static library that was proved."""
-    path = ROOT / "target" / "staticlib" / "libexport.a"
+    path = ROOT / "crates" / "export" / "out" / "libexport.a"
     assert path.is_file(), f"{path} is not there: run tools/setup"
     return path
 
 
 @pytest.fixture(scope="session")
-def library() -> Path:
+def library(version) -> Path:
     """The shared object with its version in its name: $TRUFOLMESCA_LIBRARY, or the one that tools/setup makes."""
-    path = Path(os.environ.get("TRUFOLMESCA_LIBRARY") or ROOT / "target" / "lib" / "libtrufolmesca.so").resolve()
+    path = Path(os.environ.get("TRUFOLMESCA_LIBRARY") or ROOT / "target" / "lib" / f"libtrufolmesca.so.{version}").resolve()
     assert path.is_file(), f"{path} is not there: run tools/setup"
     return path
 

@@ -25,7 +25,7 @@ def said(*words: object, **how) -> str:
 
 def make(*words: object) -> subprocess.CompletedProcess:
     """Runs make over the library as it is built: a test never starts the prover."""
-    return run("make", "-C", ROOT, "--no-print-directory", "--old-file=target/staticlib/libexport.a", *words, env=plain())
+    return run("make", "-C", ROOT, "--no-print-directory", "--old-file=crates/export/out/libexport.a", *words, env=plain())
 
 
 def plain(**more: object) -> dict[str, str]:

@@ -7,9 +7,9 @@ import pytest
 
 
 def test_both_examples_print_and_write_what_label_does(root, archive):
-    label = root / "target/bin/label"
+    label = root / "crates/label/out/label"
     if not label.is_file():
-        pytest.skip(f"{label} is not there: `rt check label` builds it")
+        pytest.skip(f"{label} is not there: `rt ci`, or `rt run` in crates/label, builds it")
     done = subprocess.run([root / "examples/test", archive, label], capture_output=True, text=True)
     different = [line for line in done.stdout.splitlines() if not line.startswith("same: ")]
     assert done.returncode == 0, "\n".join([*different, done.stderr])

@@ -169,7 +169,9 @@ def test_a_prefix_that_cannot_be(wrong):
 def test_clean_keeps_what_was_proved(tmp_path):
     for name in ("Makefile", "VERSION", "TOOLCHAIN", "crates.txt"):
         shutil.copy(ROOT / name, tmp_path / name)
-    for name in ("crates", "target/staticlib", "target/rlib", "target/lib", "target/deb"):
+    for name in ("crates/export/out/incremental", "target/examples", "target/lib", "target/deb"):
         (tmp_path / name).mkdir(parents=True)
+    (tmp_path / "crates/export/out/libexport.a").write_text("an archive\n")
     said("make", "-C", tmp_path, "clean", env=plain())
-    assert entries(tmp_path / "target") == {"staticlib", "rlib"}
+    assert entries(tmp_path / "target") == {"examples"}
+    assert entries(tmp_path / "crates/export/out") == {"incremental", "libexport.a"}

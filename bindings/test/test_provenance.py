@@ -11,16 +11,17 @@ from installing import ROOT, plain, run, said
 
 KIT = (ROOT / "TOOLCHAIN").read_text().strip()
 
-# Stands in for rt: says that it is $KIT, notes each call, and builds an archive of the text $BYTES, or fails where that is empty.
+# Stands in for rt: says that it is $KIT, notes each call, and builds an archive of the text $BYTES in the crate that it is run in, or
+# fails where that is empty.
 RT = """\
 #!/bin/sh
 echo "$*" >>"$CALLS"
 case $1 in
     version) echo "$KIT" ;;
-    staticlib)
+    lib)
         [ -n "$BYTES" ] || { echo "a proof fails"; exit 1; }
-        mkdir -p target/staticlib
-        eval "echo $BYTES" >target/staticlib/libexport.a
+        mkdir -p out
+        eval "echo $BYTES" >"out/lib$(basename "$PWD").a"
         ;;
 esac
 """
@@ -53,6 +54,9 @@ def test_the_shared_object_has_the_version(version, library):
 
 def test_the_licence():
     licence, notice = (ROOT / "LICENSE").read_text(), (ROOT / "NOTICE").read_text()
+    for binding in ("python", "rust"):
+        copies = [(ROOT / "bindings" / binding / name).read_text() for name in ("LICENSE", "NOTICE")]
+        assert copies == [licence, notice], binding
     assert "Copyright (c) 2026 the Trufolmesca maintainers" in licence and "Copyright (c) 2026 Auki Labs" in notice
     assert licence[licence.index("Permission"):] == notice[notice.index("Permission"):]
 
@@ -71,11 +75,11 @@ class Repository:
         for name in ("Makefile", "VERSION", "TOOLCHAIN", "tools/archive", "tools/reproduce"):
             (self.home / name).parent.mkdir(parents=True, exist_ok=True)
             shutil.copy(ROOT / name, self.home / name)
-        (self.home / "crates").mkdir()
-        (self.home / "crates.txt").write_text("export:\n")
-        self.source = self.home / "crates/export.rt"
+        self.source = self.home / "crates/export/src/lib.rt"
+        self.source.parent.mkdir(parents=True)
         self.source.write_text("a source\n")
-        (self.home / ".gitignore").write_text("target/\n")
+        (self.home / "crates.txt").write_text("export staticlib:\n")
+        (self.home / ".gitignore").write_text("target/\nout/\n")
         self.commands = home / "bin"
         self.commands.mkdir()
         (self.commands / "rt").write_text(RT)
@@ -89,7 +93,11 @@ class Repository:
 
     def built(self) -> bool:
         """Whether the last command had the archive built."""
-        return "staticlib export" in self.calls.read_text()
+        return self.builds() > 0
+
+    def builds(self) -> int:
+        """How often the last command had the archive built."""
+        return self.calls.read_text().splitlines().count("lib --cpu x86-64")
 
 
 @pytest.fixture
@@ -101,6 +109,10 @@ def repository(tmp_path) -> Repository:
 def test_the_recorded_kit_builds(repository):
     done = repository.run("make", "archive")
     assert done.returncode == 0 and repository.built(), done.stderr
+    assert repository.run("make", "archive").returncode == 0 and not repository.built()
+    kept = repository.home / "crates/export/out/kept.antt"  # the prover's own, and no source
+    kept.write_text("a proof\n")
+    os.utime(kept, (2e9, 2e9))
     assert repository.run("make", "archive").returncode == 0 and not repository.built()
     os.utime(repository.source, (2e9, 2e9))  # newer than the archive
     assert repository.run("make", "archive").returncode == 0 and repository.built()
@@ -132,6 +144,6 @@ def test_two_builds_are_compared(repository, contents, same):
         assert repository.run("git", *words).returncode == 0
     repository.bytes = contents
     done = repository.run("tools/reproduce")
-    assert (done.returncode == 0) == same and repository.calls.read_text().count("staticlib export") == 2, done.stderr
+    assert (done.returncode == 0) == same and repository.builds() == 2, done.stderr
     assert re.search(r"^archive  sha256 [0-9a-f]{64}$", done.stdout, re.M) and KIT in done.stdout
     assert ("both builds are the same" in done.stdout) == same
