@@ -4,6 +4,8 @@
 ghost use Rattle.std.specs.Prelude.{◌≤◌, ◌≡◌, length};
 ghost use Rattle.io.specs.Counts.{IsPrefixLen};
 
+use std::io::{Read, Stdin};
+
 // How many bytes there are, and whether the read behind them failed, which is not the input's end.
 #[derive(Clone, Copy)]
 struct Input {
@@ -12,27 +14,30 @@ struct Input {
 }
 
 // One read behind the `count` bytes that are there.
-fn read_more(buffer: &mut [u8], count: usize) -> Input
+fn read_more(stdin: &mut Stdin, buffer: &mut [u8], count: usize) -> Input
     requires { count ≤ length buffer.old }
     ensures count_le_count { count ≤ result.count }
     ensures count_in_bounds { result.count ≤ length buffer.new }
 {
-    let rest: &mut [u8] = &mut buffer[count..];
-    let got = libc::read(libc::STDIN_FILENO, rest);
-    let more = io::count(got, rest);
-    Input {
-        count: count + more,
-        failed: got < 0,
+    match stdin.read(&mut buffer[count..]) {
+        Ok(more) => Input {
+            count: count + more,
+            failed: false,
+        },
+        Err(_) => Input {
+            count,
+            failed: true,
+        },
     }
 }
 
 // Reads until the input ends, a read fails or the buffer is full.
-fn read_input(buffer: &mut [u8]) -> Input
+fn read_input(stdin: &mut Stdin, buffer: &mut [u8]) -> Input
     ensures { IsPrefixLen result.count buffer.new }
 {
     let mut n: usize = 0;
     while n < buffer.len() {
-        let input = read_more(buffer, n);
+        let input = read_more(stdin, buffer, n);
         if input.failed {
             return input;
         }
@@ -47,25 +52,20 @@ fn read_input(buffer: &mut [u8]) -> Input
     }
 }
 
-// The buffer holds one byte more than the longest card, so that an over-long one is seen. A program has no exit status to give: what
-// fails is said on standard error, and after a read that failed nothing is printed.
-fn main() {
+// The buffer holds one byte more than the longest card, so that an over-long one is seen. What fails is said on standard error, and
+// after a read that failed nothing is printed; the exit status is 0 in each case.
+fn main(rt: HostRuntime) {
+    let mut stdin = rt.stdin();
     let mut buffer = io::large_buffer();
-    let input = read_input(&mut buffer);
+    let input = read_input(&mut stdin, &mut buffer);
     if input.failed {
-        io::write_all(
-            libc::STDERR_FILENO,
-            b"label: the job card could not be read\n",
-        );
+        let _ = eprintln!(rt; "label: the job card could not be read");
         return;
     }
     let n = input.count;
     let mut text = [0u8; 1024];
     let end = report::answer_lines(cards::run_job(&buffer[..n]), &mut text);
-    if !io::write_all(libc::STDOUT_FILENO, &text[..end]) {
-        io::write_all(
-            libc::STDERR_FILENO,
-            b"label: the answer could not be written\n",
-        );
+    if rt.write_all(&text[..end]).is_err() {
+        let _ = eprintln!(rt; "label: the answer could not be written");
     }
 }
