@@ -30,8 +30,8 @@ pub fn sqrt(x: f64) -> f64
 
 // The root of m * 2^g, both in units of 2^-1074.
 fn scaled_root(m: u64, g: u64) -> f64
-    requires fact_1 { (2 ^ 52 ≤ m) × (m < 2 ^ 53) }
-    requires fact_2 { (1022 ≤ g) × (g < 3121) }
+    requires mantissa { (2 ^ 52 ≤ m) × (m < 2 ^ 53) }
+    requires exponent { (1022 ≤ g) × (g < 3121) }
     ensures { result ≡ root_units binary64 (m * 2 ^ g) }
 {
     let r = rounded_root(m, g % 2);
@@ -42,8 +42,8 @@ fn scaled_root(m: u64, g: u64) -> f64
 // t + i where n is above (t + i - 1) * (t + i) and at most (t + i) * (t + i + 1): mostly at i = 2.
 // Where i is none of 1 to 3, which no run has shown, the digits are worked out one by one.
 fn rounded_root(m: u64, p: u64) -> u64
-    requires fact_1 { (2 ^ 52 ≤ m) × (m < 2 ^ 53) }
-    requires fact_2 { p < 2 }
+    requires mantissa { (2 ^ 52 ≤ m) × (m < 2 ^ 53) }
+    requires parity { p < 2 }
     ensures { NearRoot (m * 2 ^ p * 2 ^ 52) result }
 {
     let a = m << p;
@@ -75,8 +75,8 @@ fn rounded_root(m: u64, p: u64) -> u64
 // most that it would fall short. Then s = x * y is off by the factor whose square is 1 - u, and g
 // is s divided by it, to the second order.
 fn guess(m: u64, p: u64) -> u64
-    requires fact_1 { (2 ^ 52 ≤ m) × (m < 2 ^ 53) }
-    requires fact_2 { p < 2 }
+    requires mantissa { (2 ^ 52 ≤ m) × (m < 2 ^ 53) }
+    requires parity { p < 2 }
     ensures { (2 ^ 52 ≤ result) × (result < 2 ^ 53) }
 {
     let i = ((1074 + p) << 52) + m;
@@ -94,8 +94,8 @@ fn guess(m: u64, p: u64) -> u64
 // The whole number nearest to the square root of a * 2^52, by the digits of the root from the
 // highest: the digits of a * 2^52 come down two at a time from `rest`.
 fn digits_root(a: u64) -> u64
-    requires fact_1 { 2 ^ 52 ≤ a }
-    requires fact_2 { a + 1 < 2 ^ 54 }
+    requires low { 2 ^ 52 ≤ a }
+    requires high { a + 1 < 2 ^ 54 }
     ensures { NearRoot (a * 2 ^ 52) result }
 {
     let mut rest: u64 = a << 10;

@@ -16,8 +16,8 @@ struct Input {
 // One read behind the `count` bytes that are there.
 fn read_more(stdin: &mut Stdin, buffer: &mut [u8], count: usize) -> Input
     requires { count ≤ length buffer.old }
-    ensures count_le_count { count ≤ result.count }
-    ensures count_in_bounds { result.count ≤ length buffer.new }
+    ensures grown { count ≤ result.count }
+    ensures in_buffer { result.count ≤ length buffer.new }
 {
     match stdin.read(&mut buffer[count..]) {
         Ok(more) => Input {

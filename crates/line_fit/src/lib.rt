@@ -59,8 +59,8 @@ fn weighted_sum(values: &[f64], weights: &[f64]) -> f64
 
 // The weighted second moments of points about c.
 fn scatter_of(xs: &[f64], ys: &[f64], weights: &[f64], c: SourcePixel) -> Moments
-    requires fact_1 { length ys.now ≡ length xs.now }
-    requires fact_2 { length weights.now ≡ length xs.now }
+    requires ys_too { length ys.now ≡ length xs.now }
+    requires weights_too { length weights.now ≡ length xs.now }
     ensures { result ≡ scatter (length xs.now) xs.now ys.now weights.now c }
 {
     let mut sxx = 0.0;
@@ -139,8 +139,8 @@ fn fit_moments(c: SourcePixel, m: Moments) -> Fitted
 
 // The line through points and weights that are finite, or 16, 10 or 11.
 fn fit_finite(xs: &[f64], ys: &[f64], weights: &[f64]) -> Fitted
-    requires fact_1 { length ys.now ≡ length xs.now }
-    requires fact_2 { length weights.now ≡ length xs.now }
+    requires ys_too { length ys.now ≡ length xs.now }
+    requires weights_too { length weights.now ≡ length xs.now }
     ensures { result ≡ fit_finite (length xs.now) xs.now ys.now weights.now }
 {
     let total = float_lists::sum(weights);
@@ -160,8 +160,8 @@ fn fit_finite(xs: &[f64], ys: &[f64], weights: &[f64]) -> Fitted
 
 // The line through points and weights that are as many, or 15, 16, 10 or 11.
 fn fit_paired(xs: &[f64], ys: &[f64], weights: &[f64]) -> Fitted
-    requires fact_1 { length ys.now ≡ length xs.now }
-    requires fact_2 { length weights.now ≡ length xs.now }
+    requires ys_too { length ys.now ≡ length xs.now }
+    requires weights_too { length weights.now ≡ length xs.now }
     ensures { result ≡ fit_paired (length xs.now) xs.now ys.now weights.now }
 {
     if !float_lists::all_finite(xs) {

@@ -2,6 +2,7 @@
 use mathlib.Core.Path.{sym, ◌∙◌}
 use Rattle.prelude.proofs.Tests.{failed, passed}
 use Rattle.footprint.proofs.Footprints.{lost_x, lost_y, same_place, carried_place}
+use Rattle.std.proofs.Common.{rules}
 use Rattle.footprint.proofs.through_camera.Goals as goal
 
 pub returns-then-not-is_finite : goal.returns-then-not-is_finite
@@ -15,4 +16,4 @@ returns-then-is_identity c = same_place _ _ (passed c.is_finite.ensures c.if-not
 
 pub returns : goal.returns
 returns c =
-    carried_place _ _ (passed c.is_finite.ensures c.if-not-is_finite.false-raw) (passed c.is_finite-2.ensures c.if-not-is_finite-2.false-raw) (sym c.is_identity.ensures ∙ c.if-is_identity.false) c.project.ensures
+    carried_place _ _ (passed c.is_finite.ensures c.if-not-is_finite.false-raw) (passed c.is_finite-2.ensures c.if-not-is_finite-2.false-raw) (sym c.is_identity.ensures ∙ c.if-is_identity.false) (search rules)

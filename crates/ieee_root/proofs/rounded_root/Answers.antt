@@ -20,14 +20,10 @@ abbrev a : Start → ℕ
 a c = c.args.m * 2 ^ c.args.p % 2 ^ 64
 
 held : (c : Start) → Shifted c.args.m c.args.p (a c)
-held c = shifted c.args.m c.args.p c.requires.fact_2 c.requires.fact_1.0 c.requires.fact_1.1
+held c = shifted c.args.m c.args.p c.requires.parity c.requires.mantissa.0 c.requires.mantissa.1
 
 exact : (c : Start) (r : ℕ) → NearRoot (a c * 2 ^ 52) r → NearRoot (c.args.m * 2 ^ c.args.p * 2 ^ 52) r
 exact c r N = subst (λ (n : ℕ). NearRoot (n * 2 ^ 52) r) (held c).0 N
-
--- (t + 1) * (t + 2) is below n
-
--- it is not
 
 pub returns-then-a-hi : goal.returns-then-a-hi
 returns-then-a-hi c =
@@ -40,7 +36,7 @@ returns-then-a-hi-2 c =
     exact (goal.at.returns-then-a-hi-2 c).Start (t d + 3) (near_three (a (goal.at.returns-then-a-hi-2 c).Start) (t d) (squared d) c.if-a-hi.false c.if-a-hi-2.true)
 
 pub digits_root-requires : goal.digits_root-requires
-digits_root-requires c = let s = (goal.at.digits_root-requires c).Start in record { fact_1 = (held s).1; fact_2 = (held s).2 }
+digits_root-requires c = let s = (goal.at.digits_root-requires c).Start in record { low = (held s).1; high = (held s).2 }
 
 pub returns-then-hi-lo-2 : goal.returns-then-hi-lo-2
 returns-then-hi-lo-2 c =
@@ -48,4 +44,4 @@ returns-then-hi-lo-2 c =
     exact (goal.at.returns-then-hi-lo-2 c).Start (t d + 1) (near_one (a (goal.at.returns-then-hi-lo-2 c).Start) (t d) (squared d) c.if-hi-lo-2.true c.if-hi-lo.false)
 
 pub digits_root-requires-2 : goal.digits_root-requires-2
-digits_root-requires-2 c = let s = (goal.at.digits_root-requires-2 c).Start in record { fact_1 = (held s).1; fact_2 = (held s).2 }
+digits_root-requires-2 c = let s = (goal.at.digits_root-requires-2 c).Start in record { low = (held s).1; high = (held s).2 }

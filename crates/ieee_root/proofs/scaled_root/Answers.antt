@@ -48,15 +48,15 @@ a c = c.args.m * 2 ^ (c.args.g % 2)
 
 held : (c : Start) → Shifted c.args.m (c.args.g % 2) (a c)
 held c =
-    let s = shifted c.args.m (c.args.g % 2) (omega arith) c.requires.fact_1.0 c.requires.fact_1.1 in
+    let s = shifted c.args.m (c.args.g % 2) (omega arith) c.requires.mantissa.0 c.requires.mantissa.1 in
     subst (λ (z : ℕ). Shifted c.args.m (c.args.g % 2) z) s.0 s
 
 pub float_from_bits-result : goal.float_from_bits-result
 float_from_bits-result c =
     let s = (goal.at.float_from_bits-result c).Start in
-    no_nan_small _ (sum_lt s.args.m s.args.g (a s) c.rounded_root-r.result (held s) s.requires.fact_2.0 s.requires.fact_2.1 c.rounded_root-r.ensures)
+    no_nan_small _ (sum_lt s.args.m s.args.g (a s) c.rounded_root-r.result (held s) s.requires.exponent.0 s.requires.exponent.1 c.rounded_root-r.ensures)
 
 pub returns : goal.returns
 returns c =
     let s = (goal.at.returns c).Start in
-    result s.args.m s.args.g (a s) c.rounded_root-r.result (held s) s.requires.fact_2.0 s.requires.fact_2.1 c.rounded_root-r.ensures
+    result s.args.m s.args.g (a s) c.rounded_root-r.result (held s) s.requires.exponent.0 s.requires.exponent.1 c.rounded_root-r.ensures

@@ -51,7 +51,7 @@ pub scaled_root-requires : goal.scaled_root-requires
 scaled_root-requires c =
     let l = (lift (goal.at.scaled_root-requires c).Then-b-lt4503599627370496).1 in
     let h = l.0 in
-    record { fact_1 = subst (λ (m : ℕ). (2 ^ 52 ≤ m) × (m < 2 ^ 53)) (sym l.1) (l.2, l.3); fact_2 = (omega arith, omega arith) }
+    record { mantissa = subst (λ (m : ℕ). (2 ^ 52 ≤ m) × (m < 2 ^ 53)) (sym l.1) (l.2, l.3); exponent = (omega arith, omega arith) }
 
 pub returns-then-b-lt4503599627370496 : goal.returns-then-b-lt4503599627370496
 returns-then-b-lt4503599627370496 c =
@@ -80,8 +80,8 @@ scaled_root-requires-then-x c =
     let y = b (goal.at.scaled_root-requires-then-x c).Start in
     let h = (large (goal.at.scaled_root-requires-then-x c).Else-g-eq2047).0 in
     record {
-      fact_1 = subst (λ (m : ℕ). (2 ^ 52 ≤ m) × (m < 2 ^ 53)) (sym (digits_are y)) (digits_between y);
-      fact_2 = (exponent_low c.if-b-lt4503599627370496.false, omega arith);
+      mantissa = subst (λ (m : ℕ). (2 ^ 52 ≤ m) × (m < 2 ^ 53)) (sym (digits_are y)) (digits_between y);
+      exponent = (exponent_low c.if-b-lt4503599627370496.false, omega arith);
     }
 
 pub returns-then-x : goal.returns-then-x
