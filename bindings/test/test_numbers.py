@@ -21,7 +21,9 @@ int main(void) {
 
 def test_the_names_in_rattle_are_pythons(root):
     source = (root / "crates/number/src/lib.rt").read_text()
-    assert {name: int(value) for name, value in re.findall(r"^pub const (\w+): u32 = (\d+);", source, re.M)} == NAMES
+    answer = re.search(r"^pub const (ANSWER): u32 = (\d+);", source, re.M).groups()
+    refusals = re.findall(r"^ +Refusal::(\w+) => (\d+),", source, re.M)
+    assert {name.upper(): int(value) for name, value in [answer, *refusals]} == NAMES
 
 
 def test_pythons_numbers_have_a_word_each():

@@ -18,13 +18,6 @@ pub enum Extrapolated {
     Diverged,
 }
 
-// An edge point, or none.
-#[derive(Clone, Copy)]
-pub enum Located {
-    Found(EdgePoint),
-    NoEdge,
-}
-
 // Aitken: how far from the third of three projections they tend.
 fn extrapolate(step: f64, x0: f64, x1: f64, x2: f64) -> Extrapolated
     ensures { result ≡ extrapolated step x0 x1 x2 }
@@ -34,10 +27,7 @@ fn extrapolate(step: f64, x0: f64, x1: f64, x2: f64) -> Extrapolated
         return Extrapolated::Converged;
     }
     let correction = (x2 - x1) * (x2 - x1) / denom;
-    if !ieee::is_finite(correction) {
-        return Extrapolated::Diverged;
-    }
-    if ieee::abs(correction) > step {
+    if !ieee::is_finite(correction) || ieee::abs(correction) > step {
         return Extrapolated::Diverged;
     }
     Extrapolated::Shifted((x2 - correction) - x2)
@@ -51,16 +41,15 @@ pub fn projection(normal: Direction, p: SourcePixel) -> f64
 }
 
 // The third of three points, moved to where their projections tend, or none where those tend to nothing near.
-pub fn aitken(normal: Direction, step: f64, p: EdgePoint, xs: [f64; 3]) -> Located
+pub fn aitken(normal: Direction, step: f64, p: EdgePoint, xs: [f64; 3]) -> Option<EdgePoint>
     ensures { result ≡ aitken_of normal step p xs }
 {
-    let limit = extrapolate(step, xs[0], xs[1], xs[2]);
-    match limit {
-        Extrapolated::Converged => Located::Found(p),
-        Extrapolated::Shifted(along) => Located::Found(EdgePoint {
+    match extrapolate(step, xs[0], xs[1], xs[2]) {
+        Extrapolated::Converged => Some(p),
+        Extrapolated::Shifted(along) => Some(EdgePoint {
             pos: SourcePixel(p.pos.0 + normal.x * along, p.pos.1 + normal.y * along),
             weight: p.weight,
         }),
-        Extrapolated::Diverged => Located::NoEdge,
+        Extrapolated::Diverged => None,
     }
 }

@@ -1,3 +1,2 @@
--- What the proofs of `c_answers` cite, and those of the crates above.
-pub mod Chains
+-- What the proofs of the crates above cite.
 pub mod Written

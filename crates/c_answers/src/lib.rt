@@ -19,20 +19,11 @@ fn put_corners(out: &mut [f64], q: [SourcePixel; 4])
     c_buffers::put_place_at(out, 6, q[3]);
 }
 
-// Writes a count at an index; one past the buffer's end is left out.
-fn put_count(out: &mut [u32], i: usize, n: u32)
-    ensures { out.new ≡ set out.old i n }
-{
-    if i < out.len() {
-        out[i] = n;
-    }
-}
-
 // Writes a flag as 0 or 1 at an index.
 fn put_flag(out: &mut [u32], i: usize, b: bool)
     ensures { out.new ≡ set out.old i (bit_of b) }
 {
-    put_count(out, i, prelude::bit(b));
+    c_buffers::put(out, i, prelude::bit(b));
 }
 
 // Writes what is counted of an edge from an index on: probed, fit, dropped, valid.
@@ -40,9 +31,9 @@ pub fn put_stat(out: &mut [u32], at: u32, e: EdgeStat)
     ensures { out.new ≡ with_stat at e out.old }
 {
     let i = at as usize;
-    put_count(out, i, e.points_probed);
-    put_count(out, i + 1, e.points_fit);
-    put_count(out, i + 2, e.dropped_outliers);
+    c_buffers::put(out, i, e.points_probed);
+    c_buffers::put(out, i + 1, e.points_fit);
+    c_buffers::put(out, i + 2, e.dropped_outliers);
     put_flag(out, i + 3, e.valid);
 }
 
@@ -56,7 +47,7 @@ fn put_stats(out: &mut [u32], es: [EdgeStat; 4])
     put_stat(out, 12, es[3]);
 }
 
-// Writes the four corners' flags behind what is counted of the edges.
+// Writes the four corners' flags behind what is counted of the edges. Places are written out, as the C header lists them.
 fn put_flags(out: &mut [u32], fs: [bool; 4])
     ensures { out.new ≡ with_flags fs out.old }
 {
@@ -66,16 +57,13 @@ fn put_flags(out: &mut [u32], fs: [bool; 4])
     put_flag(out, 19, fs[3]);
 }
 
-// Writes an answer's corners and counts, and gives its number.
+// Writes an answer's corners and counts, or zeros for a refusal, and gives its number.
 pub fn put_answer(a: Answer, places: &mut [f64], counts: &mut [u32]) -> u32
     ensures { Written a result places.old places.new counts.old counts.new }
 {
-    let refined = a.refined;
-    let corners = refined.corners;
-    let edge_stats = refined.edge_stats;
-    let corner_refined = refined.corner_refined;
-    put_corners(places, corners);
-    put_stats(counts, edge_stats);
-    put_flags(counts, corner_refined);
-    a.number
+    let refined = a.unwrap_or(corners::nothing_refined());
+    put_corners(places, refined.corners);
+    put_stats(counts, refined.edge_stats);
+    put_flags(counts, refined.corner_refined);
+    number::number_of(&a)
 }

@@ -6,10 +6,38 @@ ghost use Rattle.c_buffers.specs.Buffers.{with_place, with_place_at, with_point,
 
 use homography::PerspectiveTransform;
 use line::Line2;
-use pixel::{EdgePoint, SourcePixel};
+use pixel::{Direction, EdgePoint, SourcePixel};
+
+// ---- what is written of a refusal: zeros
+
+pub const ZERO_PLACE: SourcePixel = SourcePixel(0.0, 0.0);
+
+pub const ZERO_POINT: EdgePoint = EdgePoint {
+    pos: ZERO_PLACE,
+    weight: 0.0,
+};
+
+pub const ZERO_LINE: Line2 = Line2 {
+    centroid: ZERO_PLACE,
+    dir: Direction { x: 0.0, y: 0.0 },
+};
+
+pub const ZERO_MAP: PerspectiveTransform = PerspectiveTransform {
+    a11: 0.0,
+    a21: 0.0,
+    a31: 0.0,
+    a12: 0.0,
+    a22: 0.0,
+    a32: 0.0,
+    a13: 0.0,
+    a23: 0.0,
+    a33: 0.0,
+};
+
+// ---- the buffers
 
 // Writes a value at an index; one past the buffer's end is left out.
-pub fn put(out: &mut [f64], i: usize, x: f64)
+pub fn put<T: Copy>(out: &mut [T], i: usize, x: T)
     ensures { out.new ≡ set out.old i x }
 {
     if i < out.len() {

@@ -2,7 +2,7 @@
 -- Definitions only, to be believed.
 use Rattle.std.specs.Prelude.{ℕ, Bool, Float}
 use Rattle.pixel.specs.Pixels.{source, direction}
-use Rattle.footprint.specs.declared.View.{View}
+use Rattle.footprint.specs.Footprints.{View}
 use Rattle.footprint.specs.declared.Scene.{Scene}
 use Rattle.profile.specs.declared.Ray.{Ray}
 

@@ -1,17 +1,43 @@
 // The calls for C and Rust that look for an edge point, each over the lists and buffers that it is lent: `export` hands every
-// one on as it is.
+// one on as it is. The C interface names both and their parameters.
 #![tactic(auto)]
 
-ghost use Rattle.std.specs.Prelude.{◌≡◌};
-ghost use Rattle.footprint.specs.declared.View.TheVariants.{Plain};
+ghost use Rattle.std.specs.Prelude.{◌≡◌, None};
+ghost use Rattle.std.specs.Result.{result_unwrap_or};
+ghost use Rattle.number.specs.Numbers.{number_of};
 ghost use Rattle.edge_point.specs.EdgePoint.{localize_edge_point};
 ghost use Rattle.c_views.specs.Views.{view_of};
-ghost use Rattle.c_buffers.specs.Buffers.{with_point};
+ghost use Rattle.c_buffers.specs.Buffers.{with_point, zero_point};
 ghost use Rattle.c_edge_points.specs.EdgePoints.{lent_scene, lent_ray};
 
-use footprint::{Scene, View};
+use footprint::Scene;
+use photograph::Photograph;
 use pixel::{Direction, SourcePixel};
 use profile::Ray;
+
+// Where an edge point is looked for.
+fn lent_ray(
+    coarse_x: f64,
+    coarse_y: f64,
+    normal_x: f64,
+    normal_y: f64,
+    step: f64,
+    inverted: bool,
+    inward_differs: bool,
+) -> Ray
+    ensures { result ≡ lent_ray coarse_x coarse_y normal_x normal_y step inverted inward_differs }
+{
+    Ray {
+        coarse: SourcePixel(coarse_x, coarse_y),
+        normal: Direction {
+            x: normal_x,
+            y: normal_y,
+        },
+        step,
+        inverted,
+        inward_differs,
+    }
+}
 
 // ---- refine.rs, `localize_edge_point`
 
@@ -30,30 +56,30 @@ pub fn localize_edge_point(
     inward_differs: bool,
     point: &mut [f64],
 ) -> u32
-    ensures value { result ≡ (localize_edge_point bytes.now stride (lent_scene width height Plain)
-        (lent_ray coarse_x coarse_y normal_x normal_y step inverted inward_differs)).number }
-    ensures point_after { point.new ≡ with_point (localize_edge_point bytes.now stride
-        (lent_scene width height Plain)
-        (lent_ray coarse_x coarse_y normal_x normal_y step inverted inward_differs)).point point.old }
+    ensures value { result ≡ number_of (localize_edge_point bytes.now stride (lent_scene width height None)
+        (lent_ray coarse_x coarse_y normal_x normal_y step inverted inward_differs)) }
+    ensures point_after { point.new ≡ with_point (result_unwrap_or (localize_edge_point bytes.now stride
+        (lent_scene width height None)
+        (lent_ray coarse_x coarse_y normal_x normal_y step inverted inward_differs)) zero_point) point.old }
 {
+    let photograph = Photograph { bytes, stride };
     let scene = Scene {
         width,
         height,
-        view: View::Plain,
+        view: None,
     };
-    let ray = Ray {
-        coarse: SourcePixel(coarse_x, coarse_y),
-        normal: Direction {
-            x: normal_x,
-            y: normal_y,
-        },
+    let ray = lent_ray(
+        coarse_x,
+        coarse_y,
+        normal_x,
+        normal_y,
         step,
         inverted,
         inward_differs,
-    };
-    let located = edge_point::localize_edge_point(bytes, stride, scene, ray);
-    c_buffers::put_point(point, located.point);
-    located.number
+    );
+    let located = edge_point::localize_edge_point(photograph, scene, ray);
+    c_buffers::put_point(point, located.unwrap_or(c_buffers::ZERO_POINT));
+    number::number_of(&located)
 }
 
 // An edge point along a normal through a camera, or 1, 2, 6 or 19.
@@ -73,29 +99,29 @@ pub fn localize_edge_point_mapped(
     lens: bool,
     point: &mut [f64],
 ) -> u32
-    ensures value { result ≡ (localize_edge_point bytes.now stride (lent_scene width height (view_of camera.now lens))
-        (lent_ray coarse_x coarse_y normal_x normal_y step inverted inward_differs)).number }
-    ensures point_after { point.new ≡ with_point (localize_edge_point bytes.now stride
+    ensures value { result ≡ number_of (localize_edge_point bytes.now stride (lent_scene width height (view_of camera.now lens))
+        (lent_ray coarse_x coarse_y normal_x normal_y step inverted inward_differs)) }
+    ensures point_after { point.new ≡ with_point (result_unwrap_or (localize_edge_point bytes.now stride
         (lent_scene width height (view_of camera.now lens))
-        (lent_ray coarse_x coarse_y normal_x normal_y step inverted inward_differs)).point point.old }
+        (lent_ray coarse_x coarse_y normal_x normal_y step inverted inward_differs)) zero_point) point.old }
 {
+    let photograph = Photograph { bytes, stride };
     let view = c_views::view_of(camera, lens);
     let scene = Scene {
         width,
         height,
         view,
     };
-    let ray = Ray {
-        coarse: SourcePixel(coarse_x, coarse_y),
-        normal: Direction {
-            x: normal_x,
-            y: normal_y,
-        },
+    let ray = lent_ray(
+        coarse_x,
+        coarse_y,
+        normal_x,
+        normal_y,
         step,
         inverted,
         inward_differs,
-    };
-    let seen = edge_point::localize_edge_point(bytes, stride, scene, ray);
-    c_buffers::put_point(point, seen.point);
-    seen.number
+    );
+    let seen = edge_point::localize_edge_point(photograph, scene, ray);
+    c_buffers::put_point(point, seen.unwrap_or(c_buffers::ZERO_POINT));
+    number::number_of(&seen)
 }

@@ -13,18 +13,18 @@ abbrev pub float_at : List Float → ℕ → Float
 float_at s i = get_or s i nan
 
 -- x0, y0 to x3, y3
-unfoldable pub quad_of : List Float → List SourcePixel
+abbrev pub quad_of : List Float → List SourcePixel
 quad_of s = source (float_at s 0) (float_at s 1) ∷ source (float_at s 2) (float_at s 3) ∷ source (float_at s 4) (float_at s 5) ∷ source (float_at s 6) (float_at s 7) ∷ []
 
 abbrev pub working_at : List Float → ℕ → WorkingPixel
 working_at s i = record { 0 = float_at s i; 1 = float_at s (i + 1) }
 
 -- x0, y0 to x3, y3 in working pixels
-unfoldable pub working_of : List Float → List WorkingPixel
+abbrev pub working_of : List Float → List WorkingPixel
 working_of s = working_at s 0 ∷ working_at s 2 ∷ working_at s 4 ∷ working_at s 6 ∷ []
 
 -- a11, a21, a31, a12, a22, a32, a13, a23, a33
-unfoldable pub map_of : List Float → PerspectiveTransform
+abbrev pub map_of : List Float → PerspectiveTransform
 map_of s = record {
   a11 = float_at s 0;
   a21 = float_at s 1;
@@ -38,5 +38,5 @@ map_of s = record {
 }
 
 -- the centroid, then the direction
-unfoldable pub line_of : List Float → Line2
+abbrev pub line_of : List Float → Line2
 line_of s = line (source (float_at s 0) (float_at s 1)) (direction (float_at s 2) (float_at s 3))

@@ -12,10 +12,7 @@ use pixel::{Direction, SourcePixel, WorkingPixel};
 pub fn float_at(s: &[f64], i: usize) -> f64
     ensures { result ≡ float_at s.now i }
 {
-    if i < s.len() {
-        return s[i];
-    }
-    0.0 / 0.0
+    s.get(i).copied().unwrap_or(f64::NAN)
 }
 
 // Four corners in source pixels, from x0, y0 to x3, y3.
@@ -30,7 +27,8 @@ pub fn quad_of(s: &[f64]) -> [SourcePixel; 4]
     ]
 }
 
-// Four corners in working pixels, from x0, y0 to x3, y3.
+// Four corners in working pixels, from x0, y0 to x3, y3. Written out as the ones above: handing over which pixel to make
+// would take as many lines.
 pub fn working_of(s: &[f64]) -> [WorkingPixel; 4]
     ensures { result ≡ working_of s.now }
 {

@@ -1,36 +1,40 @@
 // The calls for C and Rust about maps, each over the lists and buffers that it is lent: `export` hands every one on as it is.
+// The parameters are those of the C interface.
 #![tactic(auto)]
 
 ghost use Rattle.std.specs.Prelude.{◌≡◌};
+ghost use Rattle.std.specs.Result.{result_unwrap_or};
+ghost use Rattle.number.specs.Numbers.{number_of};
 ghost use Rattle.homography.specs.Homography.{map_point, scaled as scaled_by, inverse as inverse_of, composed};
 ghost use Rattle.quad.specs.Quad.{square_to_quad, quad_to_quad, map_answer};
 ghost use Rattle.c_lists.specs.Lent.{quad_of, map_of};
-ghost use Rattle.c_buffers.specs.Buffers.{with_place, with_map};
+ghost use Rattle.c_buffers.specs.Buffers.{with_place, with_map, zero_map};
 
 use homography::PerspectiveTransform;
 
 // The map of the unit square to a quad, or 8 where it has none.
 pub fn square_to_quad(corners: &[f64], map: &mut [f64]) -> u32
-    ensures value { result ≡ (map_answer (square_to_quad (quad_of corners.now))).number }
-    ensures map_after { map.new ≡ with_map (map_answer (square_to_quad (quad_of corners.now))).map map.old }
+    ensures value { result ≡ number_of (map_answer (square_to_quad (quad_of corners.now))) }
+    ensures map_after { map.new
+        ≡ with_map (result_unwrap_or (map_answer (square_to_quad (quad_of corners.now))) zero_map) map.old }
 {
     let q = c_lists::quad_of(corners);
     let square = quad::square_to_quad(q);
-    c_buffers::put_map(map, square.map);
-    square.number
+    c_buffers::put_map(map, square.unwrap_or(c_buffers::ZERO_MAP));
+    number::number_of(&square)
 }
 
 // The map of one quad to another, or 8 where one has none.
 pub fn quad_to_quad(from: &[f64], to: &[f64], map: &mut [f64]) -> u32
-    ensures value { result ≡ (map_answer (quad_to_quad (quad_of from.now) (quad_of to.now))).number }
-    ensures map_after { map.new ≡ with_map (map_answer (quad_to_quad (quad_of from.now) (quad_of to.now))).map
-        map.old }
+    ensures value { result ≡ number_of (map_answer (quad_to_quad (quad_of from.now) (quad_of to.now))) }
+    ensures map_after { map.new
+        ≡ with_map (result_unwrap_or (map_answer (quad_to_quad (quad_of from.now) (quad_of to.now))) zero_map) map.old }
 {
     let f = c_lists::quad_of(from);
     let t = c_lists::quad_of(to);
     let quads = quad::quad_to_quad(f, t);
-    c_buffers::put_map(map, quads.map);
-    quads.number
+    c_buffers::put_map(map, quads.unwrap_or(c_buffers::ZERO_MAP));
+    number::number_of(&quads)
 }
 
 // Where a map sends u, v.

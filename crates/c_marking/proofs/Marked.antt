@@ -3,7 +3,7 @@ use mathlib.Core.Path.{◌≡◌, subst}
 use Prim.Native.Nat.{ℕ}
 use mathlib.Core.List.{List}
 use lib.Ieee.{Float}
-use Rattle.corners.specs.declared.Answer.{Answer}
+use Rattle.corners.specs.Corners.{Answer}
 use Rattle.request.specs.declared.Request.{Request}
 use Rattle.request.specs.Requests.{Photograph}
 use Rattle.marking.specs.Marking.{Marks}

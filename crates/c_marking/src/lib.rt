@@ -1,14 +1,15 @@
 // The marking calls for C and Rust, each over the lists and buffers that it is lent: `export` hands every one on as it is.
+// The parameters are those of the C interface.
 // Sheet and copy are lent width × height bytes or more, in rows of width bytes.
 #![tactic(auto)]
 
-ghost use Rattle.footprint.specs.declared.View.TheVariants.{Plain};
+ghost use Rattle.std.specs.Prelude.{None};
 ghost use Rattle.request.specs.Requests.{photograph};
 ghost use Rattle.c_views.specs.Views.{view_of};
 ghost use Rattle.c_requests.specs.Requests.{lent_request};
 ghost use Rattle.c_marking.specs.Calls.{WrittenMarked};
 
-use footprint::View;
+use photograph::Photograph;
 
 // A label's corners on a photograph as it is, marked: `marking::refine_corners_marking` over lists.
 pub fn refine_corners_marking(
@@ -27,23 +28,15 @@ pub fn refine_corners_marking(
     sheet: &mut [u8],
     copy: &mut [u8],
 ) -> u32
-    ensures { WrittenMarked (lent_request width height dim sx sy corners.now inverted Plain)
+    ensures { WrittenMarked (lent_request width height dim sx sy corners.now inverted None)
         modules.now (photograph bytes.now stride) result
         places.old places.new counts.old counts.new
         sheet.old sheet.new copy.old copy.new }
 {
-    let request = c_requests::request_of(
-        width,
-        height,
-        dim,
-        sx,
-        sy,
-        corners,
-        inverted,
-        View::Plain,
-    );
-    let a = marking::refine_corners_marking(bytes, stride, modules, request, sheet, copy);
-    c_answers::put_answer(a, places, counts)
+    let request = c_requests::request_of(width, height, dim, sx, sy, corners, inverted, None);
+    let photograph = Photograph { bytes, stride };
+    let answer = marking::refine_corners_marking(photograph, modules, request, sheet, copy);
+    c_answers::put_answer(answer, places, counts)
 }
 
 // A label's corners through a camera, marked: `marking::refine_corners_mapped_marking` over lists.
@@ -72,6 +65,7 @@ pub fn refine_corners_mapped_marking(
 {
     let view = c_views::view_of(camera, lens);
     let request = c_requests::request_of(width, height, dim, sx, sy, corners, inverted, view);
-    let a = marking::refine_corners_mapped_marking(bytes, stride, modules, request, sheet, copy);
-    c_answers::put_answer(a, places, counts)
+    let photograph = Photograph { bytes, stride };
+    let answer = marking::refine_corners_mapped_marking(photograph, modules, request, sheet, copy);
+    c_answers::put_answer(answer, places, counts)
 }

@@ -1,14 +1,15 @@
 // The refinement calls for C and Rust, each over the lists and buffers that it is lent: `export` hands every one on as it is.
+// The parameters are those of the C interface.
 #![tactic(auto)]
 
-ghost use Rattle.footprint.specs.declared.View.TheVariants.{Plain};
+ghost use Rattle.std.specs.Prelude.{None};
 ghost use Rattle.request.specs.Requests.{photograph};
 ghost use Rattle.refine.specs.Refine.{refine};
 ghost use Rattle.c_views.specs.Views.{view_of};
 ghost use Rattle.c_answers.specs.Answers.{Written};
 ghost use Rattle.c_requests.specs.Requests.{lent_request};
 
-use footprint::View;
+use photograph::Photograph;
 
 // A label's corners on a photograph as it is: `refine::refine_corners` over lists.
 pub fn refine_corners(
@@ -25,22 +26,13 @@ pub fn refine_corners(
     places: &mut [f64],
     counts: &mut [u32],
 ) -> u32
-    ensures { Written (refine (lent_request width height dim sx sy corners.now inverted Plain)
+    ensures { Written (refine (lent_request width height dim sx sy corners.now inverted None)
         modules.now (photograph bytes.now stride)) result
         places.old places.new counts.old counts.new }
 {
-    let request = c_requests::request_of(
-        width,
-        height,
-        dim,
-        sx,
-        sy,
-        corners,
-        inverted,
-        View::Plain,
-    );
-    let a = refine::refine_corners(bytes, stride, modules, request);
-    c_answers::put_answer(a, places, counts)
+    let request = c_requests::request_of(width, height, dim, sx, sy, corners, inverted, None);
+    let answer = refine::refine_corners(Photograph { bytes, stride }, modules, request);
+    c_answers::put_answer(answer, places, counts)
 }
 
 // A label's corners through a camera: `refine::refine_corners_mapped` over lists.
@@ -66,6 +58,6 @@ pub fn refine_corners_mapped(
 {
     let view = c_views::view_of(camera, lens);
     let request = c_requests::request_of(width, height, dim, sx, sy, corners, inverted, view);
-    let a = refine::refine_corners_mapped(bytes, stride, modules, request);
-    c_answers::put_answer(a, places, counts)
+    let answer = refine::refine_corners_mapped(Photograph { bytes, stride }, modules, request);
+    c_answers::put_answer(answer, places, counts)
 }

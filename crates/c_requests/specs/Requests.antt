@@ -1,7 +1,7 @@
 -- What a refinement call for C and Rust asks, by what it is lent. Definitions only, to be believed.
 use Rattle.std.specs.Prelude.{ℕ, Bool, List, Float}
 use Rattle.consts.specs.Consts.{defaults}
-use Rattle.footprint.specs.declared.View.{View}
+use Rattle.footprint.specs.Footprints.{View}
 use Rattle.request.specs.declared.Request.{Request}
 use Rattle.c_lists.specs.Lent.{working_of}
 

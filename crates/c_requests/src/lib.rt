@@ -1,4 +1,5 @@
-// What a refinement call for C and Rust asks, by the numbers and lists that it is lent.
+// What a refinement call for C and Rust asks, by the numbers and lists that it is lent. The parameters are
+// those of the C interface.
 #![tactic(auto)]
 
 ghost use Rattle.std.specs.Prelude.{◌≡◌};

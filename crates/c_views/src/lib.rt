@@ -1,34 +1,24 @@
 // The camera, the view and the border that the calls for C and Rust are lent. bindings/trufolmesca.h says what each holds.
 #![tactic(auto)]
 
-ghost use Rattle.std.specs.Prelude.{◌≡◌};
-ghost use Rattle.c_views.specs.Views.{source_intrinsics, rectified_intrinsics, lens_of, camera_of, view_of, border_of};
+ghost use Rattle.std.specs.Prelude.{◌≡◌, ◌≤◌};
+ghost use Rattle.c_views.specs.Views.{intrinsics_at, lens_of, camera_of, view_of, border_of};
 
 use c_lists::float_at;
 use camera::{CameraCalibration, CameraIntrinsics, LensDistortion};
 use footprint::{BorderMode, View};
 
-// The photograph's fx, fy, cx and cy, which begin a camera's list.
-fn source_intrinsics(s: &[f64]) -> CameraIntrinsics
-    ensures { result ≡ source_intrinsics s.now }
+// The fx, fy, cx and cy that stand from index i on in a camera's list: the photograph's from 0, the
+// rectified picture's from 4.
+fn intrinsics_at(s: &[f64], i: usize) -> CameraIntrinsics
+    requires { i ≤ 4 }
+    ensures { result ≡ intrinsics_at s.now i }
 {
     CameraIntrinsics {
-        fx: float_at(s, 0),
-        fy: float_at(s, 1),
-        cx: float_at(s, 2),
-        cy: float_at(s, 3),
-    }
-}
-
-// The rectified picture's fx, fy, cx and cy, which stand behind the photograph's in a camera's list.
-fn rectified_intrinsics(s: &[f64]) -> CameraIntrinsics
-    ensures { result ≡ rectified_intrinsics s.now }
-{
-    CameraIntrinsics {
-        fx: float_at(s, 4),
-        fy: float_at(s, 5),
-        cx: float_at(s, 6),
-        cy: float_at(s, 7),
+        fx: float_at(s, i),
+        fy: float_at(s, i + 1),
+        cx: float_at(s, i + 2),
+        cy: float_at(s, i + 3),
     }
 }
 
@@ -37,28 +27,26 @@ fn lens_of(s: &[f64], lens: bool) -> LensDistortion
     ensures { result ≡ lens_of s.now lens }
 {
     if lens {
-        return LensDistortion::BrownConrady {
+        LensDistortion::BrownConrady {
             k1: float_at(s, 8),
             k2: float_at(s, 9),
             p1: float_at(s, 10),
             p2: float_at(s, 11),
             k3: float_at(s, 12),
-        };
+        }
+    } else {
+        LensDistortion::None
     }
-    LensDistortion::None
 }
 
-// A camera, from its list and whether it has a lens.
+// A camera, from its list and whether it has a lens, as the C interface lends them.
 pub fn camera_of(s: &[f64], lens: bool) -> CameraCalibration
     ensures { result ≡ camera_of s.now lens }
 {
-    let intrinsics = source_intrinsics(s);
-    let rectified = rectified_intrinsics(s);
-    let distortion = lens_of(s, lens);
     CameraCalibration {
-        intrinsics,
-        rectified,
-        distortion,
+        intrinsics: intrinsics_at(s, 0),
+        rectified: intrinsics_at(s, 4),
+        distortion: lens_of(s, lens),
     }
 }
 
@@ -66,18 +54,16 @@ pub fn camera_of(s: &[f64], lens: bool) -> CameraCalibration
 pub fn view_of(s: &[f64], lens: bool) -> View
     ensures { result ≡ view_of s.now lens }
 {
-    View::Calibrated(camera_of(s, lens))
+    Some(camera_of(s, lens))
 }
 
 // The border mode of a code: 0 rejects, 1 clamps, any other answers with the constant.
 pub fn border_of(mode: u32, constant: u8) -> BorderMode
     ensures { result ≡ border_of mode constant }
 {
-    if mode == 0 {
-        return BorderMode::Reject;
+    match mode {
+        0 => BorderMode::Reject,
+        1 => BorderMode::Clamp,
+        _ => BorderMode::Constant(constant),
     }
-    if mode == 1 {
-        return BorderMode::Clamp;
-    }
-    BorderMode::Constant(constant)
 }

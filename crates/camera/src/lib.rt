@@ -2,12 +2,13 @@
 #![tactic(auto)]
 
 ghost use Rattle.std.specs.Prelude.{◌≡◌};
-ghost use Rattle.camera.specs.Camera.{valid_intrinsics, valid_lens, valid_camera, same_intrinsics, is_none, is_identity, distorted, projected, if_finite, rectified_to_source, camera_answer};
+ghost use Rattle.camera.specs.Camera.{valid_intrinsics, valid_lens, valid_camera, is_none, is_identity, distorted, projected, if_finite, rectified_to_source, camera_answer};
 
+use number::Refusal;
 use pixel::SourcePixel;
 
-// Pinhole intrinsics in pixels, with integer pixel centres and zero skew.
-#[derive(Clone, Copy)]
+// Pinhole intrinsics in pixels, with integer pixel centres and zero skew. Rust's `==` of them: -0 equals 0.
+#[derive(Clone, Copy, PartialEq)]
 pub struct CameraIntrinsics {
     pub fx: f64,
     pub fy: f64,
@@ -15,7 +16,8 @@ pub struct CameraIntrinsics {
     pub cy: f64,
 }
 
-// The lens, on coordinates of the picture plane before the intrinsics.
+// The lens, on coordinates of the picture plane before the intrinsics. Kinds of lens, of which the Rust has a third, and
+// so no `Option` of one.
 #[derive(Clone, Copy)]
 pub enum LensDistortion {
     None,
@@ -40,51 +42,17 @@ pub struct CameraCalibration {
 #[derive(Clone, Copy)]
 pub struct Normalized(pub f64, pub f64);
 
-// Where a rectified place lies in the source picture.
-#[derive(Clone, Copy)]
-pub enum SourcePoint {
-    At(SourcePixel),
-    Nowhere,
-}
-
-// What `rectified_to_source` returns: a number of document 01, and the place or zeros.
-#[derive(Clone, Copy)]
-pub struct PlaceAnswer {
-    pub number: u32,
-    pub place: SourcePixel,
-}
-
 impl CameraIntrinsics {
     // Finite numbers, and focal lengths above 0.
     fn valid(self) -> bool
         ensures { result ≡ valid_intrinsics self }
     {
-        if !ieee::both_finite(self.fx, self.fy) {
-            return false;
-        }
-        if !ieee::both_finite(self.cx, self.cy) {
-            return false;
-        }
-        if self.fx > 0.0 {
-            return self.fy > 0.0;
-        }
-        false
-    }
-
-    // Rust's `==`, where -0 equals 0.
-    fn same(self, other: CameraIntrinsics) -> bool
-        ensures { result ≡ same_intrinsics self other }
-    {
-        if self.fx != other.fx {
-            return false;
-        }
-        if self.fy != other.fy {
-            return false;
-        }
-        if self.cx != other.cx {
-            return false;
-        }
-        self.cy == other.cy
+        ieee::is_finite(self.fx)
+            && ieee::is_finite(self.fy)
+            && ieee::is_finite(self.cx)
+            && ieee::is_finite(self.cy)
+            && self.fx > 0.0
+            && self.fy > 0.0
     }
 }
 
@@ -96,13 +64,11 @@ impl LensDistortion {
         match self {
             LensDistortion::None => true,
             LensDistortion::BrownConrady { k1, k2, p1, p2, k3 } => {
-                if !ieee::both_finite(k1, k2) {
-                    return false;
-                }
-                if !ieee::both_finite(p1, p2) {
-                    return false;
-                }
-                ieee::is_finite(k3)
+                ieee::is_finite(k1)
+                    && ieee::is_finite(k2)
+                    && ieee::is_finite(p1)
+                    && ieee::is_finite(p2)
+                    && ieee::is_finite(k3)
             }
         }
     }
@@ -111,10 +77,7 @@ impl LensDistortion {
     fn is_none(self) -> bool
         ensures { result ≡ is_none self }
     {
-        match self {
-            LensDistortion::None => true,
-            LensDistortion::BrownConrady { .. } => false,
-        }
+        matches!(self, LensDistortion::None)
     }
 
     // Where the lens sends a place on the picture plane.
@@ -135,40 +98,30 @@ impl LensDistortion {
     }
 }
 
-// A place, or nowhere if one of its coordinates is not finite.
-fn if_finite(p: SourcePixel) -> SourcePoint
+// A place, if both its coordinates are finite.
+fn if_finite(p: SourcePixel) -> Option<SourcePixel>
     ensures { result ≡ if_finite p }
 {
     if ieee::both_finite(p.0, p.1) {
-        return SourcePoint::At(p);
+        Some(p)
+    } else {
+        None
     }
-    SourcePoint::Nowhere
 }
 
 impl CameraCalibration {
-    // Not refused by 6.
+    // Not refused by `Lens`.
     pub fn valid(self) -> bool
         ensures { result ≡ valid_camera self }
     {
-        if !self.intrinsics.valid() {
-            return false;
-        }
-        if !self.rectified.valid() {
-            return false;
-        }
-        let lens = self.distortion;
-        lens.valid()
+        self.intrinsics.valid() && self.rectified.valid() && self.distortion.valid()
     }
 
     // No lens, and both pictures have the same intrinsics: the camera changes nothing.
     pub fn is_identity(self) -> bool
         ensures { result ≡ is_identity self }
     {
-        let lens = self.distortion;
-        if lens.is_none() {
-            return self.intrinsics.same(self.rectified);
-        }
-        false
+        self.distortion.is_none() && self.intrinsics == self.rectified
     }
 
     // Through the rectified picture's intrinsics, the lens, and the source picture's intrinsics.
@@ -177,8 +130,7 @@ impl CameraCalibration {
     {
         let x = (p.0 - self.rectified.cx) / self.rectified.fx;
         let y = (p.1 - self.rectified.cy) / self.rectified.fy;
-        let lens = self.distortion;
-        let d = lens.distort(x, y);
+        let d = self.distortion.distort(x, y);
         SourcePixel(
             self.intrinsics.fx * d.0 + self.intrinsics.cx,
             self.intrinsics.fy * d.1 + self.intrinsics.cy,
@@ -187,39 +139,26 @@ impl CameraCalibration {
 
     // Where a rectified place lies in the source picture. Whoever samples through the camera has
     // tested it once, so it is not tested here.
-    fn place_in_source(self, p: SourcePixel) -> SourcePoint
+    fn place_in_source(self, p: SourcePixel) -> Option<SourcePixel>
         ensures { result ≡ rectified_to_source self p }
     {
-        if !ieee::both_finite(p.0, p.1) {
-            return SourcePoint::Nowhere;
+        if !ieee::is_finite(p.0) || !ieee::is_finite(p.1) {
+            return None;
         }
         if self.is_identity() {
-            return SourcePoint::At(p);
+            return Some(p);
         }
         if_finite(self.project(p))
     }
 
-    // Where a rectified place lies in the source picture: 6 for a camera that is not valid, then 20
-    // where there is no such place.
-    pub fn rectified_to_source(self, p: SourcePixel) -> PlaceAnswer
+    // Where a rectified place lies in the source picture: `Lens` for a camera that is not valid, then
+    // `Place` where there is no such place.
+    pub fn rectified_to_source(self, p: SourcePixel) -> Result<SourcePixel, Refusal>
         ensures { result ≡ camera_answer self p }
     {
         if !self.valid() {
-            return PlaceAnswer {
-                number: number::LENS,
-                place: SourcePixel(0.0, 0.0),
-            };
+            return Err(Refusal::Lens);
         }
-        let placed = self.place_in_source(p);
-        match placed {
-            SourcePoint::At(q) => PlaceAnswer {
-                number: number::ANSWER,
-                place: q,
-            },
-            SourcePoint::Nowhere => PlaceAnswer {
-                number: number::PLACE,
-                place: SourcePixel(0.0, 0.0),
-            },
-        }
+        self.place_in_source(p).ok_or(Refusal::Place)
     }
 }

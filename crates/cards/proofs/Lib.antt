@@ -1,6 +1,3 @@
--- What the proofs of `cards` cite.
-pub mod Marked
-pub mod Buffers
--- theorems to be read alone
+-- What the proofs of `cards` cite: theorems to be read alone.
 pub mod Answers
 pub mod RoundTrip

@@ -1,29 +1,47 @@
 -- What a job answers is read back from its result card, bit for bit: from the card itself, and from the buffer that a run leaves. Every answer of a
 -- job has counts below 256 and corners that are binary64 values (proofs/Answers), and such a card is read back. Assumes nothing.
 use Prim.Native.Nat.{ℕ}
-use mathlib.Core.Path.{◌≡◌}
+use mathlib.Core.Bool.{Bool, true, false}
+use mathlib.Core.Path.{◌≡◌, ap}
 use mathlib.Core.List.{List, [], ◌++◌, append-nil}
-use borrow.Author.Tests.{eq-eqb}
-use lib.ListN.{drop}
-use Rattle.number.specs.Numbers as number
+use lib.ListN.{length, drop}
+use lib.Dec.{leb}
+use Rattle.std.specs.Prelude.{Ok, Err}
+use Rattle.std.specs.Result.{result_unwrap_or}
+use Rattle.prelude.specs.Prelude.{when◌then◌else◌}
+use Rattle.prelude.proofs.Results.{err_not-ok}
+use Rattle.number.specs.declared.Refusal.TheVariants.{Card}
+use Rattle.corners.specs.declared.RefinedCorners.{RefinedCorners}
+use Rattle.corners.specs.Corners.{Answer, nothing_refined}
 use Rattle.result_card.specs.ResultCard.{result_card, read_result}
 use Rattle.result_card.proofs.RoundTrip.{read_back}
-use Rattle.cards.specs.Run.{job_answer, run_number, run_leaves}
+use Rattle.cards.specs.Run.{job_answer, ended, run_end, written, run_leaves}
 use Rattle.cards.proofs.Answers.{job-sound}
 
-job-back : (card tail : List ℕ) → read_result (result_card (job_answer card).refined ++ tail) ≡ (job_answer card).refined
+-- what a job answers; of a refusal zeros
+abbrev pub refined_of : List ℕ → RefinedCorners
+refined_of card = result_unwrap_or (job_answer card) nothing_refined
+
+job-back : (card tail : List ℕ) → read_result (result_card (refined_of card) ++ tail) ≡ refined_of card
 job-back card tail =
     let sound = job-sound card in
-    let r = (job_answer card).refined in
+    let r = refined_of card in
     read_back tail r.corners r.edge_stats r.corner_refined sound.corners sound.stats sound.flags
+
+-- from a buffer that an answer's card was written to
+from_buffer : (a : Answer) (out : List ℕ) (room : Bool)
+    → ((tail : List ℕ) → read_result (result_card (result_unwrap_or a nothing_refined) ++ tail) ≡ result_unwrap_or a nothing_refined)
+    → (when room then ended a else Err Card) ≡ Ok tt → Ok (read_result (when room then written a out else out)) ≡ a
+from_buffer (Ok r) out true back h = ap Ok (back (drop 93 out))
+from_buffer (Err refusal) out true back h = absurd (err_not-ok h)
+from_buffer a out false back h = absurd (err_not-ok h)
 
 -- ---- the theorems
 
 -- from the card
-pub answer-reads-back : (card : List ℕ) → read_result (result_card (job_answer card).refined) ≡ (job_answer card).refined
+pub answer-reads-back : (card : List ℕ) → read_result (result_card (refined_of card)) ≡ refined_of card
 answer-reads-back card = rw append-nil at (job-back card [])
 
 -- from the buffer that a run with an answer leaves
-pub buffer-reads-back : (card out : List ℕ) → run_number card out ≡ number.answer → read_result (run_leaves card out) ≡ (job_answer card).refined
-unfolding run_leaves
-buffer-reads-back card out answered = rw (eq-eqb (run_number card out) number.answer answered) (job-back card (drop 93 out))
+pub buffer-reads-back : (card out : List ℕ) → run_end card out ≡ Ok tt → Ok (read_result (run_leaves card out)) ≡ job_answer card
+buffer-reads-back card out answered = from_buffer (job_answer card) out (leb 93 (length out)) (job-back card) answered

@@ -1,25 +1,33 @@
 -- A job card run: what it answers, and what it returns and leaves in a buffer that it is lent for the
 -- result card. Definitions only, to be believed.
-use Rattle.std.specs.Prelude.{ℕ, ◌&&◌, List, ◌++◌, leb, eqb, length, drop}
+use Rattle.std.specs.Prelude.{ℕ, List, ◌++◌, leb, length, drop, Result, Ok, Err}
 use Rattle.prelude.specs.Prelude.{when◌then◌else◌}
-use Rattle.number.specs.Numbers as number
-use Rattle.corners.specs.declared.Answer.{Answer}
-use Rattle.corners.specs.Corners.{refused}
+use Rattle.number.specs.declared.Refusal.{Refusal}
+use Rattle.number.specs.declared.Refusal.TheVariants.{Card}
+use Rattle.corners.specs.Corners.{Answer}
 use Rattle.refine.specs.Refine.{refine}
 use Rattle.job_card.specs.JobCard.{well_formed}
 use Rattle.job.specs.Job.{request_of, modules_of, photograph_of}
 use Rattle.result_card.specs.ResultCard.{result_card}
 
--- 12, and then the refinement's end
-unfoldable pub job_answer : List ℕ → Answer
-job_answer card = when well_formed card then refine (request_of card) (modules_of card) (photograph_of card) else refused number.card
+-- malformed, and then the refinement's end
+abbrev pub job_answer : List ℕ → Answer
+job_answer card = when well_formed card then refine (request_of card) (modules_of card) (photograph_of card) else Err Card
 
--- ---- a job card run into a buffer: malformed, then a buffer under 93 bytes, then the job's own end
+-- ---- a job card run into a buffer: a buffer under 93 bytes and a malformed card are refused by the same number, then the job's own end
 
-unfoldable pub run_number : List ℕ → List ℕ → ℕ
-run_number card out =
-    when well_formed card && leb 93 (length out) then (job_answer card).number else number.card
+abbrev pub ended : Answer → Result (Unit {0}) Refusal
+ended (Ok r) = Ok tt
+ended (Err refusal) = Err refusal
 
--- the buffer after the call, where it was `out`: the card is written for an answer alone
-unfoldable pub run_leaves : List ℕ → List ℕ → List ℕ
-run_leaves card out = when eqb (run_number card out) number.answer then result_card (job_answer card).refined ++ drop 93 out else out
+abbrev pub run_end : List ℕ → List ℕ → Result (Unit {0}) Refusal
+run_end card out = when leb 93 (length out) then ended (job_answer card) else Err Card
+
+-- an answer's card at the front of a buffer; a refusal leaves it as it was
+abbrev pub written : Answer → List ℕ → List ℕ
+written (Ok r) out = result_card r ++ drop 93 out
+written (Err refusal) out = out
+
+-- the buffer after the call, where it was `out`
+abbrev pub run_leaves : List ℕ → List ℕ → List ℕ
+run_leaves card out = when leb 93 (length out) then written (job_answer card) out else out

@@ -1,26 +1,25 @@
 -- A job card run by the marking call: what it returns, and what it leaves in the sheet and the copy
 -- that it is lent. Definitions only, to be believed.
-use Rattle.std.specs.Prelude.{◌≡◌, ℕ, List}
+use Rattle.std.specs.Prelude.{◌≡◌, ℕ, List, Err}
 use Rattle.prelude.specs.Prelude.{when◌then◌else◌}
-use Rattle.number.specs.Numbers as number
-use Rattle.corners.specs.declared.Answer.{Answer}
-use Rattle.corners.specs.Corners.{refused}
+use Rattle.number.specs.declared.Refusal.TheVariants.{Card}
+use Rattle.corners.specs.Corners.{Answer}
 use Rattle.marking.specs.Marking.{refine_marking, sheet_after, copy_after}
 use Rattle.job_card.specs.JobCard.{well_formed}
 use Rattle.job.specs.Job.{request_of, modules_of, photograph_of}
 
--- ---- a card that is lent the sheet s and the copy c: malformed it is refused by 12 and writes nothing, else it ends as its job does
+-- ---- a card that is lent the sheet s and the copy c: malformed it is refused and writes nothing, else it ends as its job does
 
 module _ (card s c : List ℕ) where
-  unfoldable pub job_marking : Answer
-  job_marking = when well_formed card then refine_marking (request_of card) (modules_of card) (photograph_of card) s c else refused number.card
+  abbrev pub job_marking : Answer
+  job_marking = when well_formed card then refine_marking (request_of card) (modules_of card) (photograph_of card) s c else Err Card
 
   -- the sheet after it
-  unfoldable pub job_sheet : List ℕ
+  abbrev pub job_sheet : List ℕ
   job_sheet = when well_formed card then sheet_after (request_of card) (modules_of card) (photograph_of card) s c else s
 
   -- the copy after it
-  unfoldable pub job_copy : List ℕ
+  abbrev pub job_copy : List ℕ
   job_copy = when well_formed card then copy_after (request_of card) (modules_of card) (photograph_of card) s c else c
 
 -- What the call promises: it returns a, and takes the sheet from s to s' and the copy from c to c'.

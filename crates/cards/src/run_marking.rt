@@ -2,8 +2,9 @@
 ghost use Rattle.cards.specs.RunMarking.{JobMarks};
 
 use corners::Answer;
-use job::{modules_of, request_of, stride_of};
-use job_card::{part, well_formed};
+use job::{modules_of, photograph_of, request_of};
+use job_card::well_formed;
+use number::Refusal;
 
 // Runs a job card, and writes what it read to sheet and copy, as `marking::refine_corners_mapped_marking` does. A malformed
 // card writes nothing.
@@ -12,11 +13,10 @@ pub fn run_job_marking(card: &[u8], sheet: &mut [u8], copy: &mut [u8]) -> Answer
         sheet.old sheet.new copy.old copy.new }
 {
     if !well_formed(card) {
-        return corners::refused(number::CARD);
+        return Err(Refusal::Card);
     }
     marking::refine_corners_mapped_marking(
-        part(card, 2),
-        stride_of(card),
+        photograph_of(card),
         modules_of(card),
         request_of(card),
         sheet,

@@ -1,73 +1,54 @@
--- refine.rs, what a round's edges come to: the refusal under two valid edges, the corners where the edges
+-- refine.rs, what a round's edges come to: the refusal under two lines, the corners where the edges
 -- cross, and the answer (606 to 627). Definitions only, to be believed.
-use Rattle.std.specs.Prelude.{ℕ, ◌+◌, ◌%◌, Bool, true, false, not, ◌&&◌, List, [], ◌∷◌, ltb, eqb, get_or, replicate}
-use Rattle.std.specs.Float.{nan}
-use Rattle.prelude.specs.Prelude.{when◌then◌else◌, bit}
-use Rattle.number.specs.Numbers as number
+use Rattle.std.specs.Prelude.{ℕ, ◌+◌, ◌%◌, List, [], ◌∷◌, ltb, get_or, Option, None, is_some, unwrap_or, option_and_then, Result, Ok, Err, count_by, false, replicate}
+use Rattle.prelude.specs.Prelude.{when◌then◌else◌}
+use Rattle.number.specs.declared.Refusal.{Refusal}
+use Rattle.number.specs.declared.Refusal.TheVariants as refusal
 use Rattle.ieee.specs.Floats.{f0}
-use Rattle.pixel.specs.Pixels.{source, direction, corner}
+use Rattle.pixel.specs.Pixels.{source, corner}
 use Rattle.pixel.specs.declared.SourcePixel.{SourcePixel}
 use Rattle.line.specs.declared.Line2.{Line2}
-use Rattle.line.specs.declared.Crossing.{Crossing}
-use Rattle.line.specs.declared.Crossing.TheVariants.{At, Parallel}
-use Rattle.line.specs.Line.{line, crossing}
-use Rattle.fit.specs.declared.EdgeStat.{EdgeStat}
+use Rattle.line.specs.Line.{crossing}
 use Rattle.edges.specs.declared.Edges.{Edges}
 use Rattle.edges.specs.Edges.{no_stat}
 use Rattle.corners.specs.declared.RefinedCorners.{RefinedCorners}
-use Rattle.corners.specs.declared.Answer.{Answer}
 
 -- ---- answers
 
-unfoldable pub refused : ℕ → Answer
-refused n = record {
-  number = n;
-  refined = record { corners = replicate 4 (source f0 f0); edge_stats = replicate 4 no_stat; corner_refined = replicate 4 false };
-}
+abbrev pub Answer : Type 0
+Answer = Result RefinedCorners Refusal
 
-unfoldable pub answered : RefinedCorners → Answer
-answered r = record { number = number.answer; refined = r }
+-- what stands for the corners of a refusal: zeros, nothing counted, and flags off
+abbrev pub nothing_refined : RefinedCorners
+nothing_refined = record { corners = replicate 4 (source f0 f0); edge_stats = replicate 4 no_stat; corner_refined = replicate 4 false }
 
 -- ---- the corners
 
-abbrev pub line_in : Edges → ℕ → Line2
-line_in es i = get_or es.lines i (line (source nan nan) (direction nan nan))
+abbrev pub line_in : Edges → ℕ → Option Line2
+line_in es i = get_or es.lines i None
 
-abbrev pub stat_in : Edges → ℕ → EdgeStat
-stat_in es i = get_or es.edge_stats i no_stat
+-- how many of the edges have a line
+abbrev pub line_count : Edges → ℕ
+line_count es = count_by is_some es.lines
 
-unfoldable pub valid_count : Edges → ℕ
-valid_count es = bit (stat_in es 0).valid + bit (stat_in es 1).valid + bit (stat_in es 2).valid + bit (stat_in es 3).valid
-
--- corner i lies where the edges before and behind it cross, if both are valid; the point is computed along the one before
-unfoldable pub crossed_at : Edges → ℕ → Crossing
+-- corner i lies where the edges before and behind it cross, if both have a line; the point is computed along the one before
+abbrev pub crossed_at : Edges → ℕ → Option SourcePixel
 crossed_at es i =
-    let before = (i + 3) % 4 in
-    when (stat_in es before).valid && (stat_in es i).valid then crossing (line_in es before) (line_in es i) else Parallel
-
-unfoldable pub or_else : Crossing → SourcePixel → SourcePixel
-or_else (At p) q = p
-or_else Parallel q = q
-
-unfoldable pub is_at : Crossing → Bool
-is_at (At p) = true
-is_at Parallel = false
+    option_and_then (λ (before : Line2). option_and_then (λ (behind : Line2). crossing before behind) (line_in es i))
+    (line_in es ((i + 3) % 4))
 
 abbrev pub four : {A : Type 0} → (ℕ → A) → List A
 four f = f 0 ∷ f 1 ∷ f 2 ∷ f 3 ∷ []
 
 -- a corner that is not refined keeps the round's start
-unfoldable pub refined_corners : List SourcePixel → Edges → RefinedCorners
+abbrev pub refined_corners : List SourcePixel → Edges → RefinedCorners
 refined_corners q es = record {
-  corners = four (λ i. or_else (crossed_at es i) (corner q i));
+  corners = four (λ i. unwrap_or (crossed_at es i) (corner q i));
   edge_stats = es.edge_stats;
-  corner_refined = four (λ i. is_at (crossed_at es i));
+  corner_refined = four (λ i. is_some (crossed_at es i));
 }
 
 -- ---- the end of `refine_round`
 
-unfoldable pub round_end : List SourcePixel → Edges → Answer
-round_end q es =
-    when not (eqb es.number number.answer) then refused es.number else
-    when ltb (valid_count es) 2 then refused number.thin else
-    answered (refined_corners q es)
+abbrev pub round_end : List SourcePixel → Edges → Answer
+round_end q es = when ltb (line_count es) 2 then Err refusal.Thin else Ok (refined_corners q es)

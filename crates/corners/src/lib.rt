@@ -1,20 +1,12 @@
 // refine.rs, what the edges of a round come to: the corners where they cross, or the round's refusal.
 #![tactic(auto)]
 
-ghost use Rattle.std.specs.Prelude.{◌≡◌, ◌≤◌, ◌<◌};
-ghost use Rattle.corners.specs.Corners.{
-  crossed_at,
-  is_at,
-  or_else,
-  refined_corners,
-  refused as refused_by,
-  round_end,
-  valid_count,
-};
+ghost use Rattle.std.specs.Prelude.{◌≡◌, ◌<◌};
+ghost use Rattle.corners.specs.Corners.{crossed_at, line_count, nothing_refined, refined_corners, round_end};
 
 use edges::Edges;
 use fit::EdgeStat;
-use line::Crossing;
+use number::Refusal;
 use pixel::SourcePixel;
 
 // Four corners in source pixels, or with a camera in rectified pixels; what is counted of the four edges, and which
@@ -26,78 +18,36 @@ pub struct RefinedCorners {
     pub corner_refined: [bool; 4],
 }
 
-// What a refinement returns: a number of document 01, and the corners or zeros.
-#[derive(Clone, Copy)]
-pub struct Answer {
-    pub number: u32,
-    pub refined: RefinedCorners,
-}
+// What a refinement returns: the corners, or why there are none.
+pub type Answer = Result<RefinedCorners, Refusal>;
 
-// ---- answers
-
-// A refusal: its number, zero corners, zero counts and flags off.
-pub fn refused(number: u32) -> Answer
-    ensures { result ≡ refused_by number }
+// What stands for the corners of a refusal, where all are written: zeros, nothing counted, and flags off.
+pub fn nothing_refined() -> RefinedCorners
+    ensures { result ≡ nothing_refined }
 {
-    Answer {
-        number,
-        refined: RefinedCorners {
-            corners: [SourcePixel(0.0, 0.0); 4],
-            edge_stats: [edges::no_stat(); 4],
-            corner_refined: [false; 4],
-        },
+    RefinedCorners {
+        corners: [SourcePixel(0.0, 0.0); 4],
+        edge_stats: [edges::no_stat(); 4],
+        corner_refined: [false; 4],
     }
 }
 
-// ---- the corners
-
-// How many of the four edges are valid.
-fn valid_count(edges: Edges) -> u32
-    ensures { result ≡ valid_count edges }
+// How many of the four edges have a line.
+fn line_count(edges: Edges) -> usize
+    ensures { result ≡ line_count edges }
 {
-    let stats = edges.edge_stats;
-    prelude::bit(stats[0].valid)
-        + prelude::bit(stats[1].valid)
-        + prelude::bit(stats[2].valid)
-        + prelude::bit(stats[3].valid)
+    edges.lines.iter().filter(|line| line.is_some()).count()
 }
 
-// Where the edges before and behind corner i cross, if both are valid. The point is computed along the
+// Where the edges before and behind corner i cross, if both have a line. The point is computed along the
 // one before: along the other it would round otherwise.
-fn crossed_at(edges: Edges, i: usize) -> Crossing
+fn crossed_at(edges: Edges, i: usize) -> Option<SourcePixel>
     requires { i < 4 }
     ensures { result ≡ crossed_at edges i }
 {
-    let before = (i + 3) % 4;
-    let stats = edges.edge_stats;
-    let lines = edges.lines;
-    if !stats[before].valid {
-        return Crossing::Parallel;
-    }
-    if !stats[i].valid {
-        return Crossing::Parallel;
-    }
-    line::cross_lines(lines[before], lines[i])
-}
-
-// The place of a crossing, and the start where there is none.
-fn or_else(crossing: Crossing, start: SourcePixel) -> SourcePixel
-    ensures { result ≡ or_else crossing start }
-{
-    match crossing {
-        Crossing::At(place) => place,
-        Crossing::Parallel => start,
-    }
-}
-
-// Whether two lines cross.
-fn is_at(crossing: Crossing) -> bool
-    ensures { result ≡ is_at crossing }
-{
-    match crossing {
-        Crossing::At(_) => true,
-        Crossing::Parallel => false,
-    }
+    let before = edges.lines[(i + 3) % 4]?;
+    let behind = edges.lines[i]?;
+    line::cross_lines(before, behind)
 }
 
 // The corners of a round that started from q: one that is not refined keeps its start.
@@ -111,28 +61,22 @@ fn refined_corners(q: [SourcePixel; 4], edges: Edges) -> RefinedCorners
     let edge_stats = edges.edge_stats;
     RefinedCorners {
         corners: [
-            or_else(c0, q[0]),
-            or_else(c1, q[1]),
-            or_else(c2, q[2]),
-            or_else(c3, q[3]),
+            c0.unwrap_or(q[0]),
+            c1.unwrap_or(q[1]),
+            c2.unwrap_or(q[2]),
+            c3.unwrap_or(q[3]),
         ],
         edge_stats,
-        corner_refined: [is_at(c0), is_at(c1), is_at(c2), is_at(c3)],
+        corner_refined: [c0.is_some(), c1.is_some(), c2.is_some(), c3.is_some()],
     }
 }
 
-// A round's answer, or the number of the edge that ended it, or 9.
+// The end of a round that started from q: its corners, or too few edges with a line.
 pub fn round_end(q: [SourcePixel; 4], edges: Edges) -> Answer
     ensures { result ≡ round_end q edges }
 {
-    if edges.number != number::ANSWER {
-        return refused(edges.number);
+    if line_count(edges) < 2 {
+        return Err(Refusal::Thin);
     }
-    if valid_count(edges) < 2 {
-        return refused(number::THIN);
-    }
-    Answer {
-        number: number::ANSWER,
-        refined: refined_corners(q, edges),
-    }
+    Ok(refined_corners(q, edges))
 }

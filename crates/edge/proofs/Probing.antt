@@ -1,68 +1,86 @@
 -- A probe, and the probes after it, as steps of the tree that is left; then the line through what they found. Assumes nothing.
-use mathlib.Core.Path.{◌≡◌, ap, ◌∙◌, subst}
+use mathlib.Core.Path.{◌≡◌, sym, subst}
 use Prim.Native.Nat.{ℕ, ◌+◌, ◌≤◌, ◌<◌}
 use native.Mathlib.Numerals.{add-one}
 use native.Mathlib.Omega.{arith}
 use mathlib.Core.List.{List, [], ◌∷◌}
-use lib.ListN.{length, get_or, take, drop, length-take, drop_of_length-le}
-use lib.Seq.{drop-cons, get_or-take}
+use Rattle.std.specs.Prelude.{Option, None, Some, Result}
+use lib.ListN.{length, get_or, take, drop}
+use lib.Seq.{drop-cons}
+use Rattle.std.proofs.Common.{drop_of_length-le}
 use lib.Ieee.{Float}
+use Rattle.number.specs.declared.Refusal.{Refusal}
 use Rattle.consts.specs.Consts.{max_edge_points}
 use Rattle.pixel.specs.declared.EdgePoint.{EdgePoint}
 use Rattle.sample_tree.specs.SampleTree.{SampleTree, done}
-use Rattle.sample_tree.specs.Run.{Sampler, Runs}
-use Rattle.sample_tree.proofs.Steps.{Leads, start, then, called, end}
-use Rattle.fit.specs.Fit.{fit_edge}
+use Rattle.sample_tree.specs.declared.Sampler.{Sampler}
+use Rattle.sample_tree.specs.Samplers.{Samples}
+use Rattle.sample_tree.proofs.Samplers.{Left, start, called, end}
+use Rattle.fit.specs.Fit.{points_of, fit_edge}
 use Rattle.fit.specs.declared.EdgeFit.{EdgeFit}
-use Rattle.aitken.specs.declared.Located.{Located}
 use Rattle.probes.specs.declared.Probe.{Probe}
 use Rattle.probe.specs.declared.Plan.{Plan}
 use Rattle.probe.specs.declared.Side.{Side}
 use Rattle.probe.specs.declared.ProbeRay.{ProbeRay}
 use Rattle.probe.specs.Probe.{probe_ray}
+use Rattle.edge.specs.declared.Points.{Points}
 use Rattle.edge.specs.Edge.{localize_probe, probed, plus, points, fitted}
-use Rattle.edge.specs.Store.{stored_to}
-use Rattle.edge.proofs.Stores.{stored_all}
+use Rattle.edge.specs.Store.{found_points, Adds}
+use Rattle.edge.proofs.Stores.{Even, even_more, one_more, found_all}
 
 -- probe i is the first of those that are left
-next : (ps : List Probe) (n i : ℕ) (d : Probe) → i < n → n ≤ length ps → drop i (take n ps) ≡ get_or ps i d ∷ drop (i + 1) (take n ps)
-next ps n i d l h =
-    let within : i < length (take n ps) = omega (arith, length-take n ps) in
-    rw (add-one i, drop-cons (take n ps) i d within, get_or-take n ps i d l)
+pub next : (ps lent : List Probe) (i : ℕ) (d : Probe) → lent ≡ ps → i < length lent → drop i ps ≡ get_or lent i d ∷ drop (i + 1) ps
+next ps lent i d same l = rw (← same, add-one i) (drop-cons lent i d l)
 
-module _ {S : Type 0} (ask : Sampler S) (plan : Plan) (side : Side) (ps : List Probe) (n : ℕ) where
+module _ (plan : Plan) (side : Side) (ps : List Probe) where
   abbrev whole : SampleTree (List EdgePoint)
-  whole = points plan side (take n ps) []
+  whole = points plan side ps []
 
   -- what is left after i probes
-  abbrev pub Left : S → ℕ → List EdgePoint → S → Type 0
-  Left state₀ i got state = Leads ask whole state₀ (points plan side (drop i (take n ps)) got) state
+  pub record Probed (first now : Sampler) (i : ℕ) (found : Points) : Type 0 where
+    pub even : Even found i
+    pub left : Left first now whole (points plan side (drop i ps) (found_points found))
 
-  pub none_probed : (state : S) → Left state 0 [] state
-  none_probed state = start ask whole state
+  pub none_probed : {s : Sampler} (found : Points) → found.xs.items ≡ [] → found.ys.items ≡ [] → found.weights.items ≡ [] → Probed s s 0 found
+  unfolding points_of
+  none_probed {s} found hx hy hw = record {
+    even = record { ys_too = rw (hx, hy); weights_too = rw (hx, hw); few = rw hx (omega arith) };
+    left = rw hx start;
+  }
 
-  pub one-probed : (i : ℕ) (d : Probe) (got : List EdgePoint) {r : Located} {got' : List EdgePoint} {state₀ state state' : S} → i < n → n ≤ length ps
-      → Left state₀ i got state
-      → {aim : ProbeRay} → aim ≡ probe_ray plan side (get_or ps i d) → Runs ask (localize_probe plan.settings aim) r state state' → got' ≡ plus got r → Left state₀ (i + 1) got' state'
-  unfolding points probed
-  one-probed i d got {r} {state = state} {state' = state'} l h left is ran hg =
-      rw hg
-      (then ask
-      (rw (next ps n i d l h) at left)
-      (called ask (probed plan side (get_or ps i d)) (λ z. points plan side (drop (i + 1) (take n ps)) (plus got z))
-      (subst (λ (z : ProbeRay). Runs ask (localize_probe plan.settings z) r state state') is ran)))
+  module _ {first now after : Sampler} {i : ℕ} {found : Points} (had : Probed first now i found) {at : Probe} (next : drop i ps ≡ at ∷ drop (i + 1) ps)
+      {aim : ProbeRay} (is : aim ≡ probe_ray plan side at) {r : Option EdgePoint} (ran : Samples now after (localize_probe plan.settings aim) r) where
+    turn : Left first after whole (points plan side (drop (i + 1) ps) (plus (found_points found) r))
+    unfolding points
+    turn =
+        called (probed plan side at) (λ z. points plan side (drop (i + 1) ps) (plus (found_points found) z))
+        (rw next at had.left)
+        (subst (λ (z : ProbeRay). Samples now after (localize_probe plan.settings z) r) is ran)
 
-  pub all-probed : (i : ℕ) (got : List EdgePoint) {state₀ state : S} → n ≤ i → Left state₀ i got state → Runs ask whole got state₀ state
+    left_with : {z : Option EdgePoint} → r ≡ z → Left first after whole (points plan side (drop (i + 1) ps) (plus (found_points found) z))
+    left_with h = subst (λ (z : Option EdgePoint). Left first after whole (points plan side (drop (i + 1) ps) (plus (found_points found) z))) h turn
+
+    -- a point is behind the others
+    pub one_found : {p : EdgePoint} {found' : Points} → r ≡ Some p → Adds p found found' → Probed first after (i + 1) found'
+    one_found {p} {found'} h adds = record {
+      even = even_more p found found' i had.even adds;
+      left = subst (λ (g : List EdgePoint). Left first after whole (points plan side (drop (i + 1) ps) g)) (sym (one_more p found found' i had.even adds)) (left_with h);
+    }
+
+    -- none is
+    pub none_found : r ≡ None → Probed first after (i + 1) found
+    none_found h = record {
+      even = record { ys_too = had.even.ys_too; weights_too = had.even.weights_too; few = omega (arith, had.even.few) };
+      left = left_with h;
+    }
+
+  pub all_probed : {first now : Sampler} {i : ℕ} {found : Points} → length ps ≤ i → Probed first now i found → Samples first now whole (found_points found)
   unfolding points
-  all-probed i got l left =
-      let over : length (take n ps) ≤ i = omega (arith, length-take n ps) in
-      end ask (rw (drop_of_length-le (take n ps) over) at left)
+  all_probed l had = end (rw (drop_of_length-le ps l) at had.left)
 
-  -- the line through the first k of the slices
-  pub fits-probed : (k : ℕ) (xs ys ws : List Float) (module_px : Float) {r : EdgeFit} {state state' : S} → k ≤ max_edge_points → n ≤ length ps
-      → Runs ask whole (stored_to k xs ys ws) state state' → r ≡ fit_edge plan.settings n module_px (take max_edge_points (stored_to k xs ys ws)) → Runs ask (fitted plan side module_px (take n ps)) r state state'
-  unfolding fitted
-  fits-probed k xs ys ws module_px {r} l h ran hr =
-      let all : n ≡ length (take n ps) = omega (arith, length-take n ps) in
-      let fit : r ≡ fit_edge plan.settings (length (take n ps)) module_px (stored_to k xs ys ws) = (rw (stored_all k xs ys ws l) at hr) ∙ ap (λ (c : ℕ). fit_edge plan.settings c module_px (stored_to k xs ys ws)) all in
-      rw fit (end ask (called ask whole (λ got. done (fit_edge plan.settings (length (take n ps)) module_px got)) ran))
+  -- the line through the points that were found
+  pub line_fitted : {first now : Sampler} (found : Points) (module_px : Float) {r : Result EdgeFit Refusal} → Samples first now whole (found_points found)
+      → length found.xs.items ≤ max_edge_points → r ≡ fit_edge plan.settings (length ps) module_px (take max_edge_points (found_points found))
+      → Samples first now (fitted plan side module_px ps) r
+  line_fitted found module_px ran few is =
+      rw (is, found_all found few) (end (called whole (λ got. done (fit_edge plan.settings (length ps) module_px got)) start ran))

@@ -1,190 +1,76 @@
 // refine.rs, one edge of a round: its probes, the points that they find, and the line through those.
 #![tactic(auto)]
 
-ghost use Rattle.std.specs.Prelude.{◌≡◌, [], ◌≤◌, length};
+ghost use Rattle.std.specs.Prelude.{◌≡◌, [], ◌≤◌, ◌<◌, length};
 ghost use Rattle.consts.specs.Consts.{max_edge_points};
-ghost use Rattle.photograph.specs.Photographs.{photo};
-ghost use Rattle.sample_tree.specs.Run.{state, sampler, Runs};
-ghost use Rattle.probes.specs.Probes.{held};
-ghost use Rattle.edge.specs.Edge.{localize_probe, points, fitted, edge_length, edge as edge_of};
-ghost use Rattle.edge.specs.Store.{stored_to, Adds, Room, Holds};
+ghost use Rattle.sample_tree.specs.Samplers.{Samples};
+ghost use Rattle.edge.specs.Edge.{localize_probe, points, edge_length, edge as edge_of};
+ghost use Rattle.edge.specs.Store.{found_points, IsEmpty, HasRoom, Adds};
 
-use aitken::Located;
+use arrayvec::ArrayVec;
 use consts::{MAX_EDGE_POINTS, Settings};
 use fit::{EdgeFit, EdgeStat};
-use footprint::Scene;
-use pixel::SourcePixel;
+use number::Refusal;
+use pixel::{EdgePoint, SourcePixel};
 use probe::{Plan, ProbeRay, Side};
-use probes::Probes;
-use profile::Localized;
-use sample_tree::Meter;
-
-// What all of a run shares: how its photograph lies and is seen, and the plan.
-#[derive(Clone, Copy)]
-pub struct Task {
-    pub scene: Scene,
-    pub stride: u32,
-    pub plan: Plan,
-}
-
-// An edge's end, and what sampling carries along.
-#[derive(Clone, Copy)]
-pub struct EdgeRun {
-    pub fit: EdgeFit,
-    pub meter: Meter,
-}
-
-// How many points were found, and what sampling carries along.
-#[derive(Clone, Copy)]
-struct Found {
-    count: usize,
-    meter: Meter,
-}
-
-// A side with the probes that are to find its points.
-#[derive(Clone, Copy)]
-struct Search {
-    task: Task,
-    side: Side,
-    probes: Probes,
-}
+use probes::Probe;
+use sample_tree::Sampler;
 
 // ---- a probe's point
 
 // The point of a probe. Too short a module ends it unread.
-fn localize_probe(
-    settings: Settings,
-    bytes: &[u8],
-    stride: u32,
-    scene: Scene,
-    sheet: &mut [u8],
-    copy: &mut [u8],
-    meter: Meter,
-    aim: ProbeRay,
-) -> Localized
-    ensures { Runs (sampler scene (photo bytes.now stride)) (localize_probe settings aim) result.located
-        (state sheet.old copy.old meter)
-        (state sheet.new copy.new result.meter) }
+fn localize_probe(sampler: &mut Sampler, settings: Settings, aim: ProbeRay) -> Option<EdgePoint>
+    ensures { Samples sampler.old sampler.new (localize_probe settings aim) result }
 {
     if aim.perp_module_px < 1e-9 {
-        return Localized {
-            located: Located::NoEdge,
-            meter,
-        };
+        return None;
     }
-    let ray = aim.ray;
-    profile::localize(settings, bytes, stride, scene, sheet, copy, meter, ray)
+    profile::localize(sampler, settings, aim.ray)
 }
 
 // ---- the points
 
-// A point that was found goes behind the first n; how many there are then.
-fn put(located: Located, xs: &mut [f64], ys: &mut [f64], weights: &mut [f64], n: usize) -> usize
-    requires { Room n xs.old ys.old weights.old }
-    ensures { Adds located n (stored_to n xs.old ys.old weights.old)
-        result (stored_to result xs.new ys.new weights.new) }
-{
-    match located {
-        Located::Found(point) => {
-            xs[n] = point.pos.0;
-            ys[n] = point.pos.1;
-            weights[n] = point.weight;
-            n + 1
-        }
-        Located::NoEdge => n,
+// The points of an edge, each by its x, its y and its weight. Three lists stay, since the C interface lends the
+// line's fit three.
+#[derive(Drop)]
+struct Points {
+    xs: ArrayVec<f64, MAX_EDGE_POINTS>,
+    ys: ArrayVec<f64, MAX_EDGE_POINTS>,
+    weights: ArrayVec<f64, MAX_EDGE_POINTS>,
+}
+
+impl Points {
+    // One more point.
+    fn push(&mut self, point: EdgePoint)
+        requires { HasRoom self.old }
+        ensures { Adds point self.old self.new }
+    {
+        self.xs.push(point.pos.0);
+        self.ys.push(point.pos.1);
+        self.weights.push(point.weight);
     }
 }
 
-// The points that an edge's probes find, into the three slices. What all probes share is taken out of the search
-// once, before the loop, so that no probe copies it again.
+// The points that an edge's probes find, into a list without one. It is lent the list, since one that is handed back
+// lies on the stack twice.
+#[inline(never)]
 fn find_points(
-    search: Search,
-    bytes: &[u8],
-    sheet: &mut [u8],
-    copy: &mut [u8],
-    meter: Meter,
-    xs: &mut [f64],
-    ys: &mut [f64],
-    weights: &mut [f64],
-) -> Found
-    requires { Holds search.probes xs.old ys.old weights.old }
-    ensures { (result.count ≤ search.probes.count)
-        × Runs (sampler search.task.scene (photo bytes.now search.task.stride))
-        (points search.task.plan search.side (held search.probes) [])
-        (stored_to result.count xs.new ys.new weights.new)
-        (state sheet.old copy.old meter)
-        (state sheet.new copy.new result.meter) }
+    sampler: &mut Sampler,
+    plan: Plan,
+    side: Side,
+    probes: &ArrayVec<Probe, MAX_EDGE_POINTS>,
+    found: &mut Points,
+)
+    requires { IsEmpty found.old }
+    ensures { Samples sampler.old sampler.new (points plan side probes.now.items [])
+        (found_points found.new) }
 {
-    let scene = search.task.scene;
-    let plan = search.task.plan;
-    let settings = plan.settings;
-    let side = search.side;
-    let probes = search.probes;
-    let n = probes.count;
-    let list = probes.probes;
-    let mut found = Found { count: 0, meter };
-    let mut i: usize = 0;
-    while i < n {
-        let aim = probe::probe_ray(plan, side, list[i]);
-        let run = localize_probe(
-            settings,
-            bytes,
-            search.task.stride,
-            scene,
-            sheet,
-            copy,
-            found.meter,
-            aim,
-        );
-        let located = run.located;
-        let count = put(located, xs, ys, weights, found.count);
-        let meter = run.meter;
-        found = Found { count, meter };
-        i += 1;
+    for probe in probes.as_slice() {
+        let aim = probe::probe_ray(plan, side, *probe);
+        if let Some(point) = localize_probe(sampler, plan.settings, aim) {
+            found.push(point);
+        }
     }
-    found
-}
-
-// The line through the points of the probes; `module_px` scales what is an outlier.
-fn fit_probes(
-    search: Search,
-    bytes: &[u8],
-    sheet: &mut [u8],
-    copy: &mut [u8],
-    meter: Meter,
-    module_px: f64,
-) -> EdgeRun
-    requires { (search.probes.count ≤ max_edge_points) × (length search.probes.probes ≡ max_edge_points) }
-    ensures { Runs (sampler search.task.scene (photo bytes.now search.task.stride))
-        (fitted search.task.plan search.side module_px (held search.probes)) result.fit
-        (state sheet.old copy.old meter)
-        (state sheet.new copy.new result.meter) }
-{
-    let mut xs = [0.0; MAX_EDGE_POINTS];
-    let mut ys = [0.0; MAX_EDGE_POINTS];
-    let mut weights = [0.0; MAX_EDGE_POINTS];
-    let found = find_points(
-        search,
-        bytes,
-        sheet,
-        copy,
-        meter,
-        &mut xs,
-        &mut ys,
-        &mut weights,
-    );
-    let n = found.count;
-    let probed = search.probes.count as u32;
-    let fit = fit::fit_edge(
-        search.task.plan.settings,
-        &xs[..n],
-        &ys[..n],
-        &weights[..n],
-        probed,
-        module_px,
-    );
-    let meter = found.meter;
-    EdgeRun { fit, meter }
 }
 
 // ---- the edge
@@ -200,18 +86,12 @@ fn length_of(a: SourcePixel, b: SourcePixel) -> f64
 
 // One edge of a round: where its corners coincide there is no line, and nothing is counted.
 pub fn refine_edge(
-    task: Task,
-    bytes: &[u8],
+    sampler: &mut Sampler,
+    plan: Plan,
     modules: &[u8],
-    sheet: &mut [u8],
-    copy: &mut [u8],
-    meter: Meter,
     side: Side,
-) -> EdgeRun
-    ensures { Runs (sampler task.scene (photo bytes.now task.stride))
-        (edge_of task.plan modules.now side) result.fit
-        (state sheet.old copy.old meter)
-        (state sheet.new copy.new result.meter) }
+) -> Result<EdgeFit, Refusal>
+    ensures { Samples sampler.old sampler.new (edge_of plan modules.now side) result }
 {
     let len = length_of(side.from, side.to);
     if len < 1e-9 {
@@ -221,13 +101,24 @@ pub fn refine_edge(
             dropped_outliers: 0,
             valid: false,
         };
-        return EdgeRun {
-            fit: EdgeFit::TooFewPoints(none),
-            meter,
-        };
+        return Ok(EdgeFit {
+            line: None,
+            stat: none,
+        });
     }
-    let probes = probes::probes_of(task.plan.settings, modules, task.plan.dim, side.edge);
-    let search = Search { task, side, probes };
-    let module_px = len / task.plan.dim as f64;
-    fit_probes(search, bytes, sheet, copy, meter, module_px)
+    let probes = probes::probes_of(plan.settings, modules, plan.dim, side.edge);
+    let mut found = Points {
+        xs: ArrayVec::new(),
+        ys: ArrayVec::new(),
+        weights: ArrayVec::new(),
+    };
+    find_points(sampler, plan, side, &probes, &mut found);
+    fit::fit_edge(
+        plan.settings,
+        found.xs.as_slice(),
+        found.ys.as_slice(),
+        found.weights.as_slice(),
+        probes.len() as u32,
+        len / plan.dim as f64,
+    )
 }

@@ -2,76 +2,46 @@
 #![tactic(auto)]
 
 ghost use Rattle.std.specs.Prelude.{◌≡◌};
-ghost use Rattle.edge_point.specs.EdgePoint.{localize_edge_point, no_point, view_number};
+ghost use Rattle.edge_point.specs.EdgePoint.{localize_edge_point, view_check};
 
-use aitken::Located;
 use footprint::Scene;
-use pixel::{EdgePoint, SourcePixel};
+use number::Refusal;
+use photograph::Photograph;
+use pixel::EdgePoint;
 use profile::Ray;
-use sample_tree::Meter;
+use sample_tree::{Meter, Sampler};
 
-// What `localize_edge_point` returns: a number of document 01, and the point or zeros.
-#[derive(Clone, Copy)]
-pub struct PointAnswer {
-    pub number: u32,
-    pub point: EdgePoint,
-}
-
-// The number by which a photograph or its camera is refused, and 0 where neither is.
-fn view_number(bytes: &[u8], stride: u32, scene: Scene) -> u32
-    ensures { result ≡ view_number bytes.now stride scene }
+// Checks 1, 2 and 6: the photograph, and its camera.
+fn check_view(photograph: Photograph, scene: Scene) -> Result<(), Refusal>
+    ensures { result ≡ view_check photograph.entry.bytes.now photograph.entry.stride scene }
 {
-    let refusal = photograph::photograph_number(scene.width, scene.height, stride, bytes.len());
-    if refusal != number::ANSWER {
-        return refusal;
-    }
-    let view = scene.view;
-    if !view.valid() {
-        return number::LENS;
-    }
-    number::ANSWER
-}
-
-// A refusal by its number, with a point of zeros.
-fn no_point(refusal: u32) -> PointAnswer
-    ensures { result ≡ record { number = refusal; point = no_point } }
-{
-    PointAnswer {
-        number: refusal,
-        point: EdgePoint {
-            pos: SourcePixel(0.0, 0.0),
-            weight: 0.0,
-        },
+    photograph.check(scene.width, scene.height)?;
+    if footprint::good_view(scene.view) {
+        Ok(())
+    } else {
+        Err(Refusal::Lens)
     }
 }
 
-// An edge point of a photograph, as it is or through a camera: 1, 2 and 6 for those, then 19 where the
-// profile has no edge point.
-pub fn localize_edge_point(bytes: &[u8], stride: u32, scene: Scene, ray: Ray) -> PointAnswer
-    ensures { result ≡ localize_edge_point bytes.now stride scene ray }
+// An edge point of a photograph, as it is or through a camera, or the refusal of those, or `Profile` where the
+// profile has no edge point. No marks are wanted, so an empty sheet and an empty copy are lent.
+pub fn localize_edge_point(
+    photograph: Photograph,
+    scene: Scene,
+    ray: Ray,
+) -> Result<EdgePoint, Refusal>
+    ensures { result ≡ localize_edge_point photograph.entry.bytes.now photograph.entry.stride scene ray }
 {
-    let refusal = view_number(bytes, stride, scene);
-    if refusal != number::ANSWER {
-        return no_point(refusal);
-    }
+    check_view(photograph, scene)?;
     let mut unmarked = [0u8; 0];
     let mut uncopied = [0u8; 0];
-    let run = profile::localize(
-        consts::defaults(),
-        bytes,
-        stride,
+    let mut sampler = Sampler {
+        photograph,
         scene,
-        &mut unmarked,
-        &mut uncopied,
-        Meter { tried: 0 },
-        ray,
-    );
-    let located = run.located;
-    match located {
-        Located::Found(point) => PointAnswer {
-            number: number::ANSWER,
-            point,
-        },
-        Located::NoEdge => no_point(number::PROFILE),
-    }
+        sheet: &mut unmarked,
+        copy: &mut uncopied,
+        meter: Meter { tried: 0 },
+    };
+    let point = profile::localize(&mut sampler, consts::defaults(), ray);
+    point.ok_or(Refusal::Profile)
 }

@@ -1,2 +1,2 @@
--- What belongs to no one function of `edges`: the definitions opened together.
-pub mod Opened
+-- What the crates above cite.
+pub mod Valid

@@ -1,5 +1,5 @@
 // The refinement calls: each hands on what the one of its name in `c_refine` or `c_marking` gives.
-ghost use Rattle.footprint.specs.declared.View.TheVariants.{Plain};
+ghost use Rattle.std.specs.Prelude.{None};
 ghost use Rattle.request.specs.Requests.{photograph};
 ghost use Rattle.refine.specs.Refine.{refine};
 ghost use Rattle.c_views.specs.Views.{view_of};
@@ -25,7 +25,7 @@ pub extern "C" fn trufolmesca_refine_corners(
     places: &mut [f64],
     counts: &mut [u32],
 ) -> u32
-    ensures { Written (refine (lent_request width height dim sx sy corners.now inverted Plain)
+    ensures { Written (refine (lent_request width height dim sx sy corners.now inverted None)
         modules.now (photograph bytes.now stride)) result
         places.old places.new counts.old counts.new }
 {
@@ -52,7 +52,7 @@ pub extern "C" fn trufolmesca_refine_corners_marking(
     sheet: &mut [u8],
     copy: &mut [u8],
 ) -> u32
-    ensures { WrittenMarked (lent_request width height dim sx sy corners.now inverted Plain)
+    ensures { WrittenMarked (lent_request width height dim sx sy corners.now inverted None)
         modules.now (photograph bytes.now stride) result
         places.old places.new counts.old counts.new
         sheet.old sheet.new copy.old copy.new }

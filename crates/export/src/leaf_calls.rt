@@ -1,19 +1,21 @@
 // The leaf calls: each hands on what the one of its name in `c_maps`, `c_lines`, `c_samples` or `c_edge_points` gives.
-ghost use Rattle.std.specs.Prelude.{◌≡◌, set};
+ghost use Rattle.std.specs.Prelude.{◌≡◌, None, set};
+ghost use Rattle.std.specs.Result.{result_unwrap_or};
 ghost use Rattle.std.specs.Float.{binary64};
+ghost use Rattle.number.specs.Numbers.{number_of};
+ghost use Rattle.ieee.specs.Floats.{f0};
 ghost use Rattle.ieee_root.specs.Root.{root};
 ghost use Rattle.pixel.specs.Pixels.{source};
 ghost use Rattle.sampling.specs.Sampling.{sample_bilinear};
-ghost use Rattle.footprint.specs.declared.View.TheVariants.{Plain};
 ghost use Rattle.camera.specs.Camera.{camera_answer};
 ghost use Rattle.homography.specs.Homography.{map_point, scaled, inverse, composed};
 ghost use Rattle.quad.specs.Quad.{square_to_quad, quad_to_quad, map_answer};
 ghost use Rattle.line.specs.Line.{crossing, cross_answer};
-ghost use Rattle.line_fit.specs.LineFit.{fit_line, line_answer};
+ghost use Rattle.line_fit.specs.LineFit.{fit_line};
 ghost use Rattle.edge_point.specs.EdgePoint.{localize_edge_point};
 ghost use Rattle.c_lists.specs.Lent.{quad_of, map_of, line_of};
 ghost use Rattle.c_views.specs.Views.{camera_of, view_of, border_of};
-ghost use Rattle.c_buffers.specs.Buffers.{with_place, with_point, with_line, with_map};
+ghost use Rattle.c_buffers.specs.Buffers.{with_place, with_point, with_line, with_map, zero_place, zero_point, zero_line, zero_map};
 ghost use Rattle.c_edge_points.specs.EdgePoints.{lent_scene, lent_ray};
 
 // ---- sampling.rs
@@ -31,9 +33,9 @@ pub extern "C" fn trufolmesca_sample_bilinear(
     constant: u8,
     value: &mut [f64],
 ) -> u32
-    ensures value { result ≡ (sample_bilinear bytes.now width height stride x y (border_of border constant)).number }
+    ensures value { result ≡ number_of (sample_bilinear bytes.now width height stride x y (border_of border constant)) }
     ensures value_after { value.new ≡ set value.old 0
-        (sample_bilinear bytes.now width height stride x y (border_of border constant)).luma }
+        (result_unwrap_or (sample_bilinear bytes.now width height stride x y (border_of border constant)) f0) }
 {
     c_samples::sample_bilinear(bytes, width, height, stride, x, y, border, constant, value)
 }
@@ -49,8 +51,9 @@ pub extern "C" fn trufolmesca_rectified_to_source(
     y: f64,
     place: &mut [f64],
 ) -> u32
-    ensures value { result ≡ (camera_answer (camera_of camera.now lens) (source x y)).number }
-    ensures place_after { place.new ≡ with_place (camera_answer (camera_of camera.now lens) (source x y)).place place.old }
+    ensures value { result ≡ number_of (camera_answer (camera_of camera.now lens) (source x y)) }
+    ensures place_after { place.new ≡ with_place
+        (result_unwrap_or (camera_answer (camera_of camera.now lens) (source x y)) (source f0 f0)) place.old }
 {
     c_samples::rectified_to_source(camera, lens, x, y, place)
 }
@@ -60,8 +63,9 @@ pub extern "C" fn trufolmesca_rectified_to_source(
 // The map of the unit square onto four corners: `c_maps::square_to_quad` under its name for C.
 #[unsafe(no_mangle)]
 pub extern "C" fn trufolmesca_square_to_quad(corners: &[f64], map: &mut [f64]) -> u32
-    ensures value { result ≡ (map_answer (square_to_quad (quad_of corners.now))).number }
-    ensures map_after { map.new ≡ with_map (map_answer (square_to_quad (quad_of corners.now))).map map.old }
+    ensures value { result ≡ number_of (map_answer (square_to_quad (quad_of corners.now))) }
+    ensures map_after { map.new
+        ≡ with_map (result_unwrap_or (map_answer (square_to_quad (quad_of corners.now))) zero_map) map.old }
 {
     c_maps::square_to_quad(corners, map)
 }
@@ -69,9 +73,9 @@ pub extern "C" fn trufolmesca_square_to_quad(corners: &[f64], map: &mut [f64]) -
 // The map of four corners onto four others: `c_maps::quad_to_quad` under its name for C.
 #[unsafe(no_mangle)]
 pub extern "C" fn trufolmesca_quad_to_quad(from: &[f64], to: &[f64], map: &mut [f64]) -> u32
-    ensures value { result ≡ (map_answer (quad_to_quad (quad_of from.now) (quad_of to.now))).number }
-    ensures map_after { map.new ≡ with_map (map_answer (quad_to_quad (quad_of from.now) (quad_of to.now))).map
-        map.old }
+    ensures value { result ≡ number_of (map_answer (quad_to_quad (quad_of from.now) (quad_of to.now))) }
+    ensures map_after { map.new
+        ≡ with_map (result_unwrap_or (map_answer (quad_to_quad (quad_of from.now) (quad_of to.now))) zero_map) map.old }
 {
     c_maps::quad_to_quad(from, to, map)
 }
@@ -118,9 +122,9 @@ pub extern "C" fn trufolmesca_fit_line_tls_weighted(
     weights: &[f64],
     line: &mut [f64],
 ) -> u32
-    ensures value { result ≡ (line_answer (fit_line xs.now ys.now weights.now)).number }
-    ensures line_after { line.new ≡ with_line (line_answer (fit_line xs.now ys.now weights.now)).line
-        line.old }
+    ensures value { result ≡ number_of (fit_line xs.now ys.now weights.now) }
+    ensures line_after { line.new
+        ≡ with_line (result_unwrap_or (fit_line xs.now ys.now weights.now) zero_line) line.old }
 {
     c_lines::fit_line_tls_weighted(xs, ys, weights, line)
 }
@@ -128,9 +132,9 @@ pub extern "C" fn trufolmesca_fit_line_tls_weighted(
 // Where two lines cross: `c_lines::intersect_lines` under its name for C.
 #[unsafe(no_mangle)]
 pub extern "C" fn trufolmesca_intersect_lines(a: &[f64], b: &[f64], place: &mut [f64]) -> u32
-    ensures value { result ≡ (cross_answer (crossing (line_of a.now) (line_of b.now))).number }
-    ensures place_after { place.new ≡ with_place (cross_answer (crossing (line_of a.now) (line_of b.now))).place
-        place.old }
+    ensures value { result ≡ number_of (cross_answer (crossing (line_of a.now) (line_of b.now))) }
+    ensures place_after { place.new
+        ≡ with_place (result_unwrap_or (cross_answer (crossing (line_of a.now) (line_of b.now))) zero_place) place.old }
 {
     c_lines::intersect_lines(a, b, place)
 }
@@ -153,11 +157,11 @@ pub extern "C" fn trufolmesca_localize_edge_point(
     inward_differs: bool,
     point: &mut [f64],
 ) -> u32
-    ensures value { result ≡ (localize_edge_point bytes.now stride (lent_scene width height Plain)
-        (lent_ray coarse_x coarse_y normal_x normal_y step inverted inward_differs)).number }
-    ensures point_after { point.new ≡ with_point (localize_edge_point bytes.now stride
-        (lent_scene width height Plain)
-        (lent_ray coarse_x coarse_y normal_x normal_y step inverted inward_differs)).point point.old }
+    ensures value { result ≡ number_of (localize_edge_point bytes.now stride (lent_scene width height None)
+        (lent_ray coarse_x coarse_y normal_x normal_y step inverted inward_differs)) }
+    ensures point_after { point.new ≡ with_point (result_unwrap_or (localize_edge_point bytes.now stride
+        (lent_scene width height None)
+        (lent_ray coarse_x coarse_y normal_x normal_y step inverted inward_differs)) zero_point) point.old }
 {
     c_edge_points::localize_edge_point(
         bytes,
@@ -193,11 +197,11 @@ pub extern "C" fn trufolmesca_localize_edge_point_mapped(
     lens: bool,
     point: &mut [f64],
 ) -> u32
-    ensures value { result ≡ (localize_edge_point bytes.now stride (lent_scene width height (view_of camera.now lens))
-        (lent_ray coarse_x coarse_y normal_x normal_y step inverted inward_differs)).number }
-    ensures point_after { point.new ≡ with_point (localize_edge_point bytes.now stride
+    ensures value { result ≡ number_of (localize_edge_point bytes.now stride (lent_scene width height (view_of camera.now lens))
+        (lent_ray coarse_x coarse_y normal_x normal_y step inverted inward_differs)) }
+    ensures point_after { point.new ≡ with_point (result_unwrap_or (localize_edge_point bytes.now stride
         (lent_scene width height (view_of camera.now lens))
-        (lent_ray coarse_x coarse_y normal_x normal_y step inverted inward_differs)).point point.old }
+        (lent_ray coarse_x coarse_y normal_x normal_y step inverted inward_differs)) zero_point) point.old }
 {
     c_edge_points::localize_edge_point_mapped(
         bytes,

@@ -28,6 +28,5 @@ number-back (suc n) v s small =
 -- ---- a float, from its bytes
 
 pub float_back : (x : Float) → T (fits binary64 x) → of_bits binary64 (number_at 8 (float_bytes x ++ []) 0) ≡ x
-unfolding float_bytes
 float_back x h =
     ap (of_bits binary64) (number-back 8 (to_bits binary64 x) [] (to_bits-lt binary64 x h)) ∙ of_bits-to_bits binary64 x h

@@ -1,40 +1,83 @@
--- Writing a list of bytes piece by piece, each piece behind the last: what is left to be written takes the buffer where the whole would have
--- taken it. So a loop's invariant and a chain of calls are the same record, and each piece is one law. Assumes nothing.
-use Prim.Native.Nat.{ℕ, zero, suc, ◌+◌, ◌-◌, ◌*◌, ◌/◌, ◌%◌, ◌≤◌, ◌<◌}
+-- Writing to an output piece by piece: one piece behind another is one piece, also where the buffer ends within them. Assumes nothing.
+use Prim.Native.Nat.{ℕ, zero, suc, ◌+◌, ◌-◌, ◌*◌, ◌/◌, ◌≤◌, ◌<◌, min}
 use mathlib.Core.Path.{◌≡◌, refl, sym, ap, ◌∙◌}
-use mathlib.Core.List.{List, [], ◌∷◌, ◌++◌}
+use mathlib.Core.List.{List, [], ◌∷◌, ◌++◌, append_assoc}
 use native.Mathlib.Omega.{arith}
-use native.Mathlib.Numerals.{add-one}
-use native.Mathlib.Nat.{add-suc, suc-add, add-zero, mul-suc, mul-zero}
-use lib.ListN.{length, drop, get_or, set, length-append}
-use lib.Seq.{drop-cons, drop-length, sets, length-sets}
+use native.Mathlib.Nat.{add-suc, suc-add, add-zero, mul-suc, mul-zero, div-div-eq-div-mul}
+use borrow.Author.Tests.{leb-true, leb-false}
+use borrow.Rule.Slice.PartMut.{put_mid}
+use lib.Dec.{leb}
+use lib.ListN.{length, take, drop, get_or, set, length-append}
+use lib.Seq.{sets, length-sets, set_out}
 use lib.Ieee.{Float, binary64, to_bits}
+use Rattle.std.proofs.lemmas.List.{take-append-drop, take_all, take_more, length-take}
+use Rattle.std.proofs.lemmas.List.Edits.{sets-eq}
+use Rattle.std.proofs.lemmas.Slice.{put_mid-paste}
+use Rattle.std.specs.Int.{bytes_low_first}
+use Rattle.prelude.proofs.Branches.{by_test}
 use Rattle.fields.specs.Fields.{bytes_of, float_bytes}
+use Rattle.fields.specs.Output.{Writes}
+use Rattle.fields.specs.declared.output.Output.{Output}
 
--- `whole` is being written to `before` from `at` on; the buffer is `now`, and `rest` is left, from `next` on
-pub record Written (before : List ℕ) (at : ℕ) (whole now : List ℕ) (next : ℕ) (rest : List ℕ) : Type 0 where
-  pub long : length now ≡ length before
-  pub left : sets now next rest ≡ sets before at whole
+-- ---- a buffer
 
 pub sets_append : (l : List ℕ) (i : ℕ) (first more : List ℕ) → sets l i (first ++ more) ≡ sets (sets l i first) (i + length first) more
 sets_append l i [] more = ap (λ (k : ℕ). sets l k more) (sym (add-zero i))
 sets_append l i (a ∷ first) more = sets_append (set l i a) (suc i) first more ∙ ap (λ (k : ℕ). sets (sets (set l i a) (suc i) first) k more) (suc-add i (length first) ∙ sym (add-suc i (length first)))
 
-module _ {before : List ℕ} {at : ℕ} {whole : List ℕ} where
-  pub none_yet : Written before at whole before at whole
-  none_yet = record { long = refl; left = refl }
+-- nothing is stored past the end
+sets_out : (l : List ℕ) (i : ℕ) (s : List ℕ) → length l ≤ i → sets l i s ≡ l
+sets_out l i [] h = refl
+sets_out l i (a ∷ s) h = rw (set_out l i a h) (sets_out l (suc i) s (omega arith))
 
-  -- a piece is written
-  pub piece : {now : List ℕ} {next : ℕ} (first more : List ℕ) {now' : List ℕ} {next' : ℕ} → Written before at whole now next (first ++ more)
-      → now' ≡ sets now next first → next' ≡ next + length first → Written before at whole now' next' more
-  piece {now} {next} first more {now'} {next'} w wrote on = record {
-    long = ap length wrote ∙ length-sets now next first ∙ w.long;
-    left = rw (wrote, on) (sym (sets_append now next first more) ∙ w.left);
-  }
+-- so what is past it may be left out
+cut : (l : List ℕ) (at : ℕ) (s : List ℕ) (n : ℕ) → n ≡ min (length s) (length l - at) → sets l at s ≡ sets l at (take n s)
+cut l at s n most =
+    by_test (leb (length s) (length l - at))
+    (λ fits. rw (take_all n s (omega (arith, leb-true (length s) (length l - at) fits))))
+    (λ longer.
+    let less = leb-false (length s) (length l - at) longer in
+    let end : length (sets l at (take n s)) ≤ at + length (take n s) = rw (length-sets l at (take n s), length-take n s) (omega arith) in
+    ap (λ (t : List ℕ). sets l at t) (sym (take-append-drop n s))
+    ∙ sets_append l at (take n s) (drop n s)
+    ∙ sets_out (sets l at (take n s)) (at + length (take n s)) (drop n s) end)
 
-  -- the last piece is
-  pub last : {now : List ℕ} {next : ℕ} (first : List ℕ) {now' : List ℕ} → Written before at whole now next first → now' ≡ sets now next first → now' ≡ sets before at whole
-  last first w wrote = wrote ∙ w.left
+pub wrote_none : (l : List ℕ) (at : ℕ) (s : List ℕ) → 0 ≡ min (length s) (length l - at) → l ≡ sets l at s
+wrote_none l at s none = sym (cut l at s 0 none)
+
+pub wrote_part : (l : List ℕ) (at : ℕ) (s : List ℕ) (n k : ℕ) (part : List ℕ) → n ≡ min (length s) (length l - at) → 0 < n → k ≡ n → part ≡ take n s
+    → put_mid at k l part ≡ sets l at s
+wrote_part l at s n k part most some long is =
+    let len : length (take n s) ≡ n = rw length-take (omega arith) in
+    let piece : sets l at s ≡ take at l ++ take n s ++ drop (at + n) l = cut l at s n most ∙ sets-eq (take n s) l at (omega arith) ∙ rw len in
+    put_mid-paste at k l part (take n s) n is (sym long) (sym len) ∙ rw (take_all n (take n s) (omega arith), piece)
+
+-- ---- an output
+
+pub none : {a : Output} → Writes a a []
+none = record { same = refl; wrote = refl; on = omega arith }
+
+pub then : {a b c : Output} {s t : List ℕ} → Writes a b s → Writes b c t → Writes a c (s ++ t)
+then {a} {b} {c} {s} {t} p q =
+    let l = a.buffer.now in
+    let long : length b.buffer.now ≡ length l = rw p.wrote (length-sets l a.at s) in
+    let whole : sets b.buffer.now (a.at + length s) t ≡ sets l a.at (s ++ t) = rw p.wrote (sym (sets_append l a.at s t)) in
+    record {
+      same = q.same ∙ p.same;
+      wrote = by_test (leb (length s) (length l - a.at))
+          (λ fits.
+          let here : b.at ≡ a.at + length s = omega (arith, leb-true (length s) (length l - a.at) fits, p.on) in
+          q.wrote ∙ rw here whole)
+          (λ longer.
+          let less = leb-false (length s) (length l - a.at) longer in
+          let end : length b.buffer.now ≤ b.at = omega (arith, p.on) in
+          q.wrote ∙ sets_out b.buffer.now b.at t end ∙ sym (sets_out b.buffer.now (a.at + length s) t (omega arith)) ∙ whole);
+      on = rw length-append (omega (arith, p.on, q.on));
+    }
+
+-- the same bytes by another name
+pub as_bytes : {a b : Output} {s t : List ℕ} → s ≡ t → Writes a b s → Writes a b t
+as_bytes {a} {b} e p = rw (← e) p
 
 -- ---- a number, from its lowest byte up
 
@@ -44,31 +87,12 @@ length-bytes zero v = refl
 length-bytes (suc n) v = ap suc (length-bytes n (v / 256))
 
 pub length_float : (x : Float) → length (float_bytes x) ≡ 8
-unfolding float_bytes
 length_float x = length-bytes 8 (to_bits binary64 x)
 
--- k of its n bytes are written
-abbrev pub NumberTo : List ℕ → ℕ → ℕ → ℕ → List ℕ → ℕ → ℕ → Type 0
-NumberTo before at n v now k rest = (k ≤ n) × Written before at (bytes_of n v) now (at + k) (bytes_of (n - k) rest)
-
-pub number_none : (out : List ℕ) (at n v : ℕ) → NumberTo out at n v out 0 v
-number_none out at n v =
-    let here : at + 0 ≡ at = omega arith in
-    let all : n - 0 ≡ n = omega arith in
-    (omega arith, rw (here, all) none_yet)
-
-pub number_more : (before : List ℕ) (at n v : ℕ) (now : List ℕ) (k rest : ℕ) → k < n → NumberTo before at n v now k rest
-    → NumberTo before at n v (set now (at + k) (rest % 256)) (k + 1) (rest / 256)
+-- the library's bytes
+pub low_first : (v : ℕ) → bytes_low_first 0 8 v ≡ bytes_of 8 v
 unfolding bytes_of
-number_more before at n v now k rest some w =
-    let one_less : n - k ≡ suc (n - (k + 1)) = omega arith in
-    (omega arith, piece (rest % 256 ∷ []) (bytes_of (n - (k + 1)) (rest / 256)) (rw one_less at w.1) refl (omega arith))
-
-pub number-all : (before : List ℕ) (at n v : ℕ) (now : List ℕ) (rest : ℕ) → NumberTo before at n v now n rest → now ≡ sets before at (bytes_of n v)
-unfolding bytes_of
-number-all before at n v now rest w =
-    let none : n - n ≡ 0 = omega arith in
-    last [] (rw none at w.1) refl
+low_first v = simp div-div-eq-div-mul
 
 -- ---- a row of things, each in w bytes
 
@@ -76,10 +100,6 @@ pub record Row {A : Type 0} (f : List A → List ℕ) (w : ℕ) : Type 0 where
   pub none : f [] ≡ []
   pub one : (x : A) (xs : List A) → f (x ∷ xs) ≡ f (x ∷ []) ++ f xs
   pub wide : (x : A) → length (f (x ∷ [])) ≡ w
-
--- i of them are written
-abbrev pub RowTo : {A : Type 0} → (List A → List ℕ) → ℕ → List ℕ → ℕ → List A → List ℕ → ℕ → Type 0
-RowTo f w before at xs now i = (i ≤ length xs) × Written before at (f xs) now (at + w * i) (f (drop i xs))
 
 module _ {A : Type 0} {f : List A → List ℕ} {w : ℕ} (r : Row f w) where
   pub length-row : (xs : List A) → length (f xs) ≡ w * length xs
@@ -89,18 +109,10 @@ module _ {A : Type 0} {f : List A → List ℕ} {w : ℕ} (r : Row f w) where
       ∙ length-append (f (x ∷ [])) (f xs)
       ∙ rw (r.wide x, length-row xs) (omega (arith, mul-suc w (length xs)))
 
-  pub row_none : (out : List ℕ) (at : ℕ) (xs : List A) → RowTo f w out at xs out 0
-  row_none out at xs =
-      let here : at + w * 0 ≡ at = omega arith in
-      (omega arith, rw here none_yet)
+  row_append : (xs : List A) (x : A) → f (xs ++ x ∷ []) ≡ f xs ++ f (x ∷ [])
+  row_append [] x = rw r.none
+  row_append (y ∷ xs) x = rw (r.one y (xs ++ x ∷ []), row_append xs x, r.one y xs) (sym (append_assoc (f (y ∷ [])) (f xs) (f (x ∷ []))))
 
-  pub row_more : (before : List ℕ) (at : ℕ) (xs : List A) (now : List ℕ) (i : ℕ) (d : A) (now' : List ℕ) → i < length xs → RowTo f w before at xs now i
-      → now' ≡ sets now (at + w * i) (f (get_or xs i d ∷ [])) → RowTo f w before at xs now' (i + 1)
-  row_more before at xs now i d now' some wrote e =
-      let x = get_or xs i d in
-      let split : f (drop i xs) ≡ f (x ∷ []) ++ f (drop (i + 1) xs) = rw (add-one, drop-cons xs i d some) (r.one x (drop (suc i) xs)) in
-      let on : w * (i + 1) ≡ w * i + w = rw add-one (mul-suc w i) in
-      (omega arith, piece (f (x ∷ [])) (f (drop (i + 1) xs)) (rw split at wrote.1) e (rw (on, r.wide x) (omega arith)))
-
-  pub row-all : (before : List ℕ) (at : ℕ) (xs : List A) (now : List ℕ) → RowTo f w before at xs now (length xs) → now ≡ sets before at (f xs)
-  row-all before at xs now wrote = last [] (rw (drop-length xs, r.none) at wrote.1) refl
+  -- the first i of them are written, and then one more
+  pub row_more : {a b c : Output} (xs : List A) (i : ℕ) (d : A) → i < length xs → Writes a b (f (take i xs)) → Writes b c (f (get_or xs i d ∷ [])) → Writes a c (f (take (i + 1) xs))
+  row_more xs i d some p q = rw (take_more xs i d some, row_append (take i xs) (get_or xs i d)) (then p q)

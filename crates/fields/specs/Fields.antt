@@ -17,7 +17,7 @@ number_at zero s i = 0
 number_at (suc n) s i = byte_at s i + 256 * number_at n s (suc i)
 
 -- the float whose bits stand from i on
-unfoldable pub float_at : List ℕ → ℕ → Float
+abbrev pub float_at : List ℕ → ℕ → Float
 float_at s i = of_bits binary64 (number_at 8 s i)
 
 -- ---- writing
@@ -28,9 +28,9 @@ bytes_of zero v = []
 bytes_of (suc n) v = v % 256 ∷ bytes_of n (v / 256)
 
 -- a float, by its bits
-unfoldable pub float_bytes : Float → List ℕ
+abbrev pub float_bytes : Float → List ℕ
 float_bytes x = bytes_of 8 (to_bits binary64 x)
 
 -- a field of that tag
-unfoldable pub field : ℕ → List ℕ → List ℕ
+abbrev pub field : ℕ → List ℕ → List ℕ
 field tag contents = tag ∷ bytes_of 2 (length contents) ++ contents

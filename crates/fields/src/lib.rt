@@ -4,14 +4,15 @@
 ghost use Rattle.std.specs.Prelude.{◌≡◌, ◌+◌, ◌≤◌, ◌<◌, ◌^◌, min};
 ghost use Rattle.fields.specs.Fields.{byte_at, number_at, float_at};
 
+mod output; // output.rt: a buffer that is filled from its front
+
+pub use output::Output;
+
 // The byte at i; past the end of the slice 0.
 pub fn byte_at(s: &[u8], i: usize) -> u64
     ensures { (result ≡ byte_at s.now i) × (result < 256) }
 {
-    if i < s.len() {
-        return s[i] as u64;
-    }
-    0
+    s.get(i).copied().unwrap_or(0) as u64
 }
 
 // The number in the n bytes from i on, where 64 bits hold it.
@@ -20,9 +21,7 @@ fn number_within(s: &[u8], i: usize, n: usize) -> u64
     ensures { (result ≡ number_at n s.now i) × (result < 256 ^ n) }
 {
     let mut v: u64 = 0;
-    let mut k: usize = n;
-    while k > 0 {
-        k -= 1;
+    for k in (0..n).rev() {
         v = v * 256 + byte_at(s, i + k);
     }
     v
@@ -32,13 +31,11 @@ fn number_within(s: &[u8], i: usize, n: usize) -> u64
 pub fn number_at(s: &[u8], i: usize, n: usize) -> u64
     ensures { (result ≡ number_at (min n 8) s.now i) × (result < 256 ^ min n 8) }
 {
-    if i >= s.len() {
-        return 0;
+    if i < s.len() {
+        number_within(s, i, n.min(8))
+    } else {
+        0
     }
-    if n > 8 {
-        return number_within(s, i, 8);
-    }
-    number_within(s, i, n)
 }
 
 // The float whose 8 bytes stand from i on.

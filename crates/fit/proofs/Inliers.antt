@@ -42,9 +42,6 @@ pub inliers_none : (most : Float) → [] ≡ inliers {A = Float} most [] []
 unfolding inliers
 inliers_none most = refl
 
-pub inliers-whole : (most : Float) (rs xs out : List Float) (k i : ℕ) → i ≡ length xs → length rs ≡ length xs → take k out ≡ inliers most (take i rs) (take i xs) → take k out ≡ inliers most rs xs
-inliers-whole most rs xs out k i q h e = e ∙ rw (take_all i rs (omega arith), take_all i xs (omega arith))
-
 pub inliers_fewer : {A : Type 0} (most : Float) (rs : List Float) (xs : List A) → length (inliers most rs xs) ≤ length xs
 unfolding inliers
 inliers_fewer most [] xs = omega arith

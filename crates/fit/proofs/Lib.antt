@@ -5,7 +5,6 @@ pub mod SortOrders
 pub mod CountingSorts
 pub mod Rising
 -- what the functions' proofs cite
-pub mod Lists
 pub mod Sorting
 pub mod Searching
 pub mod ResidualMagnitudes
@@ -13,5 +12,3 @@ pub mod Inliers
 pub mod Points
 -- what the crates above cite
 pub mod Counts
--- the definitions opened together
-pub mod Opened

@@ -1,27 +1,26 @@
 -- Points that are lent as three lists: what the fits, the residuals and the dropping of points are of the lists. Assumes nothing.
 use mathlib.Core.Path.{◌≡◌, refl, ap, sym, ◌∙◌}
-use Prim.Native.Nat.{ℕ, zero, suc, ◌-◌, ◌<◌, ◌≤◌}
+use Prim.Native.Nat.{ℕ, zero, suc, ◌-◌, ◌<◌, ◌≤◌, min}
 use native.Mathlib.Omega.{arith}
-use mathlib.Core.Bool.{Bool, true, false, not}
+use mathlib.Core.Bool.{Bool, true, false}
 use mathlib.Core.List.{List, [], ◌∷◌, map}
 use lib.ListN.{length, take}
 use lib.Seq.{length-take-le, get_or-take, ext_get_or}
 use lib.Ieee.{Float, nan}
-use borrow.Author.Tests.{lt-ltb, le-ltb}
+use lib.Dec.{ltb}
+use Rattle.std.proofs.lemmas.List.{take_min}
 use Rattle.prelude.specs.Prelude.{when◌then◌else◌}
-use Rattle.number.specs.Numbers as number
+use Rattle.std.specs.Prelude.{Ok, None}
 use Rattle.ieee.specs.Floats.{◌≼◌}
-use Rattle.consts.specs.Consts.{max_edge_points}
 use Rattle.consts.specs.declared.Settings.{Settings}
 use Rattle.pixel.specs.Pixels.{source, edge_point}
 use Rattle.pixel.specs.declared.EdgePoint.{EdgePoint}
-use Rattle.float_lists.specs.Sums.{at, finite_to}
+use Rattle.float_lists.specs.Sums.{at}
 use Rattle.line_fit.specs.LineFit.{fit_line}
 use Rattle.line.specs.declared.Line2.{Line2}
-use Rattle.line_fit.specs.declared.Fitted.TheVariants.{Along}
-use Rattle.fit.specs.declared.EdgeFit.TheVariants.{Refusal, TooFewPoints}
-use Rattle.fit.specs.Lent.{Paired, Least}
-use Rattle.fit.specs.Fit.{points_of, fit_points, residual, residuals, inliers, stat, lined, refit, reject_outliers, first_fit, fit_edge, threshold}
+use Rattle.line_fit.specs.declared.Points.{Points}
+use Rattle.fit.specs.Lent.{edge_points}
+use Rattle.fit.specs.Fit.{points_of, fit_points, residual, residuals, inliers, stat, edge_fit, lined, refit, first_fit, fit_edge}
 use Rattle.fit.proofs.Inliers.{inliers_fewer}
 
 -- ---- three lists of one length, element by element
@@ -68,35 +67,27 @@ length-residuals l (p ∷ ps) = ap suc (length-residuals l ps)
 
 -- ---- the first points at most are those of the first x, y and weights
 
-pub take-points : (m n : ℕ) (xs ys ws : List Float) → Least m (length xs) (length ys) (length ws) n → points_of (take n xs) (take n ys) (take n ws) ≡ take m (points_of xs ys ws)
+pub take-points : (n : ℕ) (xs ys ws : List Float) → points_of (take n xs) (take n ys) (take n ws) ≡ take n (points_of xs ys ws)
 unfolding points_of
-take-points zero zero xs ys ws h = refl
-take-points (suc m) zero [] ys ws h = refl
-take-points (suc m) zero (x ∷ xs) [] ws h = refl
-take-points (suc m) zero (x ∷ xs) (y ∷ ys) [] h = refl
-take-points (suc m) zero (x ∷ xs) (y ∷ ys) (w ∷ ws) h = absurd (h.met (omega arith) (omega arith) (omega arith) (omega arith))
-take-points zero (suc n) xs ys ws h = absurd (omega (arith, h.under_a))
-take-points (suc m) (suc n) [] ys ws h = absurd (omega (arith, h.under_b))
-take-points (suc m) (suc n) (x ∷ xs) [] ws h = absurd (omega (arith, h.under_c))
-take-points (suc m) (suc n) (x ∷ xs) (y ∷ ys) [] h = absurd (omega (arith, h.under_d))
-take-points (suc m) (suc n) (x ∷ xs) (y ∷ ys) (w ∷ ws) h =
-    ap (λ (l : List EdgePoint). edge_point (source x y) w ∷ l)
-    (take-points m n xs ys ws
-    (record {
-      under_a = omega (arith, h.under_a);
-      under_b = omega (arith, h.under_b);
-      under_c = omega (arith, h.under_c);
-      under_d = omega (arith, h.under_d);
-      met = λ a b c d. h.met (omega arith) (omega arith) (omega arith) (omega arith);
-    }))
+take-points zero xs ys ws = refl
+take-points (suc n) [] ys ws = refl
+take-points (suc n) (x ∷ xs) [] ws = refl
+take-points (suc n) (x ∷ xs) (y ∷ ys) [] = refl
+take-points (suc n) (x ∷ xs) (y ∷ ys) (w ∷ ws) = ap (λ (l : List EdgePoint). edge_point (source x y) w ∷ l) (take-points n xs ys ws)
 
-pub paired_taken : (xs ys ws : List Float) (n : ℕ) → Least max_edge_points (length xs) (length ys) (length ws) n → Paired (take n xs) (take n ys) (take n ws)
-paired_taken xs ys ws n h =
-    record {
-      ys_too = length-take-le n ys h.under_c ∙ sym (length-take-le n xs h.under_b);
-      weights_too = length-take-le n ws h.under_d ∙ sym (length-take-le n xs h.under_b);
-      hold = omega (arith, length-take-le n xs h.under_b, h.under_a);
-    }
+-- there are as many points as there are of the fewest
+length-points_of : (xs ys ws : List Float) → length (points_of xs ys ws) ≡ min (length xs) (min (length ys) (length ws))
+unfolding points_of
+length-points_of [] ys ws = omega arith
+length-points_of (x ∷ xs) [] ws = omega arith
+length-points_of (x ∷ xs) (y ∷ ys) [] = omega arith
+length-points_of (x ∷ xs) (y ∷ ys) (w ∷ ws) = omega (arith, length-points_of xs ys ws)
+
+-- so the first of each list, where they are as many as the first m points, are those points
+pub first-points : (m n : ℕ) (xs ys ws : List Float) → n ≡ min m (min (length xs) (min (length ys) (length ws))) → points_of (take n xs) (take n ys) (take n ws) ≡ take m (points_of xs ys ws)
+first-points m n xs ys ws e =
+    let q : n ≡ min m (length (points_of xs ys ws)) = omega (arith, length-points_of xs ys ws) in
+    take-points n xs ys ws ∙ ap (λ (k : ℕ). take k (points_of xs ys ws)) q ∙ take_min m (points_of xs ys ws)
 
 -- ---- the inliers of the points are those of the x, y and weights
 
@@ -123,63 +114,48 @@ inliers-points most (r ∷ rs) (more {x} {y} {w} {xs} {ys} {ws} a) = by (r ≼ m
     by true i = ap (λ (l : List EdgePoint). edge_point (source x y) w ∷ l) i
     by false i = i
 
--- ---- the definitions, of lists that are lent
+-- ---- the definitions, of points that are lent
 
-module _ (xs ys ws : List Float) (h : Paired xs ys ws) where
-  lent : Alike xs ys ws
-  lent = alike xs ys ws h.ys_too h.weights_too
+module _ (ps : Points) where
+  lent : Alike ps.xs.now ps.ys.now ps.weights.now
+  lent = alike ps.xs.now ps.ys.now ps.weights.now ps.ys_too ps.weights_too
 
-  count : length (points_of xs ys ws) ≡ length xs
-  count = length-points lent
+  pub length-edge_points : length (edge_points ps) ≡ length ps.xs.now
+  length-edge_points = length-points lent
 
-  fit_points_lem : fit_line xs ys ws ≡ fit_points (points_of xs ys ws)
+  pub fit_points-lent : fit_line ps.xs.now ps.ys.now ps.weights.now ≡ fit_points (edge_points ps)
   unfolding fit_points
-  fit_points_lem = rw ((columns lent).0, (columns lent).1, (columns lent).2)
+  fit_points-lent = rw ((columns lent).0, (columns lent).1, (columns lent).2)
 
-  pub residuals-are : (l : Line2) (v : List Float) → length xs ≤ length v → ((k : ℕ) → k < length xs → at v k ≡ residual l (source (at xs k) (at ys k))) →
-      take (length xs) v ≡ residuals l (points_of xs ys ws)
+  pub residuals-are : (l : Line2) (v : List Float) → length ps.xs.now ≤ length v → ((k : ℕ) → k < length ps.xs.now → at v k ≡ residual l (source (at ps.xs.now k) (at ps.ys.now k))) →
+      take (length ps.xs.now) v ≡ residuals l (edge_points ps)
   residuals-are l v n inv =
-      let m = length-take-le (length xs) v n in
-      ext_get_or nan (take (length xs) v) (residuals l (points_of xs ys ws))
-      (m ∙ sym (length-residuals l (points_of xs ys ws) ∙ count))
-      (λ i q. get_or-take (length xs) v i nan (omega arith) ∙ inv i (omega arith) ∙ sym (residual-at l i lent (omega arith)))
+      let m = length-take-le (length ps.xs.now) v n in
+      ext_get_or nan (take (length ps.xs.now) v) (residuals l (edge_points ps))
+      (m ∙ sym (length-residuals l (edge_points ps) ∙ length-edge_points))
+      (λ i q. get_or-take (length ps.xs.now) v i nan (omega arith) ∙ inv i (omega arith) ∙ sym (residual-at l i lent (omega arith)))
 
   module _ (s : Settings) (probed : ℕ) where
-    pub refit-few : (all : ℕ) → length xs < s.min_edge_points → TooFewPoints (stat probed (length xs) (all - length xs) false) ≡ refit s probed all (points_of xs ys ws)
+    pub refit-lent : (all : ℕ) → refit s probed all (edge_points ps)
+        ≡ (when ltb (length ps.xs.now) s.min_edge_points then Ok (edge_fit None (stat probed (length ps.xs.now) (all - length ps.xs.now) false)) else
+        lined (stat probed (length ps.xs.now) (all - length ps.xs.now) true) (fit_line ps.xs.now ps.ys.now ps.weights.now))
     unfolding refit
-    refit-few all k = rw (count, lt-ltb (length xs) s.min_edge_points k)
+    refit-lent all = rw (length-edge_points, ← fit_points-lent)
 
-    pub refit_more : (all : ℕ) → s.min_edge_points ≤ length xs → lined (stat probed (length xs) (all - length xs) true) (fit_line xs ys ws) ≡ refit s probed all (points_of xs ys ws)
-    unfolding refit
-    refit_more all k = rw (count, le-ltb (length xs) s.min_edge_points k, ← fit_points_lem)
-
-    pub edge_few : (m : Float) → length xs < s.min_edge_points → TooFewPoints (stat probed 0 0 false) ≡ fit_edge s probed m (points_of xs ys ws)
+    pub edge-lent : (m : Float) → fit_edge s probed m (edge_points ps)
+        ≡ (when ltb (length ps.xs.now) s.min_edge_points then Ok (edge_fit None (stat probed 0 0 false)) else
+        first_fit s probed m (edge_points ps) (fit_line ps.xs.now ps.ys.now ps.weights.now))
     unfolding fit_edge
-    edge_few m k = rw (count, lt-ltb (length xs) s.min_edge_points k)
-
-    pub edge_more : (m : Float) → s.min_edge_points ≤ length xs → first_fit s probed m (points_of xs ys ws) (fit_line xs ys ws) ≡ fit_edge s probed m (points_of xs ys ws)
-    unfolding fit_edge
-    edge_more m k = rw (count, le-ltb (length xs) s.min_edge_points k, ← fit_points_lem)
-
-    module _ (m : Float) (l : Line2) (rs : List Float) (b : Bool) (e : rs ≡ residuals l (points_of xs ys ws)) (f : b ≡ finite_to (length rs) rs) where
-      pub reject_refused : not b ≡ true → Refusal number.overflow ≡ first_fit s probed m (points_of xs ys ws) (Along l)
-      unfolding first_fit reject_outliers
-      reject_refused k = rw (← e, ← f, k)
-
-      pub reject_refit : not b ≡ false → refit s probed (length xs) (inliers (threshold s m rs) rs (points_of xs ys ws)) ≡ first_fit s probed m (points_of xs ys ws) (Along l)
-      unfolding first_fit reject_outliers
-      reject_refit k = rw (← e, ← f, k, count)
+    edge-lent m = rw (length-edge_points, ← fit_points-lent)
 
 -- ---- what the arrays hold, in place of the lists that they hold
 
-module _ (most : Float) (rs xs ys ws : List Float) (h : Paired xs ys ws) (a b d : List Float) (p : a ≡ inliers most rs xs) (q : b ≡ inliers most rs ys) (r : d ≡ inliers most rs ws) where
-  pub inliers-lent : Paired a b d
-  inliers-lent =
-      let k = same_lengths (inliers_alike most rs (lent xs ys ws h)) in
-      rw (p, q, r) (record { ys_too = k.0; weights_too = k.1; hold = omega (arith, inliers_fewer most rs xs, h.hold) })
+module _ (most : Float) (rs : List Float) (ps : Points) (a b d : List Float) (p : a ≡ inliers most rs ps.xs.now) (q : b ≡ inliers most rs ps.ys.now) (r : d ≡ inliers most rs ps.weights.now) where
+  pub kept_alike : (length b ≡ length a) × (length d ≡ length a)
+  kept_alike = rw (p, q, r) (same_lengths (inliers_alike most rs (lent ps)))
 
-  pub inliers-lent_fewer : length a ≤ length xs
-  inliers-lent_fewer = rw p (inliers_fewer most rs xs)
+  pub kept_fewer : length a ≤ length ps.xs.now
+  kept_fewer = rw p (inliers_fewer most rs ps.xs.now)
 
-  pub refit-lent : (s : Settings) (probed : ℕ) → refit s probed (length xs) (points_of a b d) ≡ refit s probed (length xs) (inliers most rs (points_of xs ys ws))
-  refit-lent s probed = rw (p, q, r) (ap (refit s probed (length xs)) (inliers-points most rs (lent xs ys ws h)))
+  pub kept-points : points_of a b d ≡ inliers most rs (edge_points ps)
+  kept-points = rw (p, q, r) (inliers-points most rs (lent ps))

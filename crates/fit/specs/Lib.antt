@@ -2,3 +2,4 @@
 pub mod Fit
 pub mod Lent
 pub mod Counting
+pub mod Magnitudes

@@ -2,12 +2,12 @@
 #![tactic(auto)]
 
 ghost use Rattle.std.specs.Prelude.{◌≡◌};
+ghost use Rattle.number.specs.Numbers.{number_of};
 ghost use Rattle.c_buffers.specs.Buffers.{with_line};
 ghost use Rattle.c_answers.specs.Answers.{with_stat};
-ghost use Rattle.corners.specs.Corners.{line_in, stat_in};
-ghost use Rattle.fit_c.specs.Edge.{edge_of};
+ghost use Rattle.fit_c.specs.Edge.{edge_of, line_written, written};
 
-use edges::Edges;
+use fit::EdgeFit;
 
 // `fit::fit_edge` for C, under the default settings: the line goes to one buffer, and probed, fit,
 // dropped and valid to another.
@@ -21,16 +21,18 @@ pub extern "C" fn fit_edge(
     line: &mut [f64],
     counts: &mut [u32],
 ) -> u32
-    ensures value { result ≡ (edge_of xs.now ys.now weights.now probed module_px).number }
+    ensures value { result ≡ number_of (edge_of xs.now ys.now weights.now probed module_px) }
     ensures line_after { line.new
-        ≡ with_line (line_in (edge_of xs.now ys.now weights.now probed module_px) 0) line.old }
+        ≡ with_line (line_written (edge_of xs.now ys.now weights.now probed module_px)) line.old }
     ensures counts_after { counts.new
-        ≡ with_stat 0 (stat_in (edge_of xs.now ys.now weights.now probed module_px) 0)
-        counts.old }
+        ≡ with_stat 0 (written (edge_of xs.now ys.now weights.now probed module_px)).stat counts.old }
 {
-    let fit = fit::fit_edge(consts::defaults(), xs, ys, weights, probed, module_px);
-    let edges = Edges::none().with(0, fit);
-    c_buffers::put_line(line, edges.lines[0]);
-    c_answers::put_stat(counts, 0, edges.edge_stats[0]);
-    edges.number
+    let returned = fit::fit_edge(consts::defaults(), xs, ys, weights, probed, module_px);
+    let fit = returned.unwrap_or(EdgeFit {
+        line: None,
+        stat: edges::no_stat(),
+    });
+    c_buffers::put_line(line, fit.line.unwrap_or(c_buffers::ZERO_LINE));
+    c_answers::put_stat(counts, 0, fit.stat);
+    number::number_of(&returned)
 }

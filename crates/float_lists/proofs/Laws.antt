@@ -1,54 +1,42 @@
--- What one more turn adds to a sum and to a test of all, and what the first failure says of the whole. Assumes nothing.
-use mathlib.Core.Path.{◌≡◌, refl, ap, sym, ◌∙◌}
-use Prim.Native.Nat.{ℕ, zero, suc, ◌+◌, ◌<◌}
-use native.Mathlib.Numerals.{add-one}
-use native.Mathlib.Omega.{arith}
-use native.Mathlib.Nat.{eq-or-lt_of_le}
-use mathlib.Core.Bool.{Bool, true, false, ◌&&◌}
-use mathlib.Core.Logic.{⊎_elim}
-use lib.Ieee.{Float}
+-- The sum of a list is the sum of its terms by index, and of a list of finite floats each is finite: for every length. Assumes nothing.
+use mathlib.Core.Path.{◌≡◌, refl, ap, ◌∙◌}
+use Prim.Native.Nat.{ℕ, zero, suc, ◌<◌}
+use mathlib.Core.Bool.{true}
+use mathlib.Core.List.{List, [], ◌∷◌}
+use lib.ListN.{length}
+use lib.Ieee.{Float, nan}
+use Rattle.std.specs.Prelude.{fold}
+use Rattle.std.proofs.lemmas.List.Sums.{AllPass-from_list_all}
 use Rattle.ieee.specs.Floats.{◌⊕◌, f0}
-use Rattle.float_lists.specs.Sums.{sum_to, all_to}
+use Rattle.ieee.specs.Parts.{is_finite}
+use Rattle.float_lists.specs.Sums.{at, finite, sum_to, total}
 
-pub sum_none : (f : ℕ → Float) → sum_to 0 f ≡ f0
-unfolding sum_to
-sum_none f = refl
+-- ---- the sum
 
-pub sum_turn : (n : ℕ) (f : ℕ → Float) (s : Float) → s ≡ sum_to n f → (s ⊕ f n) ≡ sum_to (n + 1) f
-unfolding sum_to
-sum_turn n f s e = rw (e, add-one n)
+-- n terms, from t on
+sum_onto : Float → ℕ → (ℕ → Float) → Float
+sum_onto t zero f = t
+sum_onto t (suc n) f = sum_onto t n f ⊕ f n
 
-pub sum-whole : (n m : ℕ) (f : ℕ → Float) (s : Float) → n ≡ m → s ≡ sum_to n f → s ≡ sum_to m f
-sum-whole n m f s q e = e ∙ ap (λ (k : ℕ). sum_to k f) q
+onto_none : (n : ℕ) (f : ℕ → Float) → sum_onto f0 n f ≡ sum_to n f
+unfolding sum_onto
+onto_none zero f = refl
+onto_none (suc n) f = ap (λ (t : Float). t ⊕ f n) (onto_none n f)
 
-pub all_none : (f : ℕ → Bool) → all_to 0 f ≡ true
-unfolding all_to
-all_none f = refl
+onto_first : (t : Float) (n : ℕ) (f : ℕ → Float) → sum_onto (t ⊕ f 0) n (λ k. f (suc k)) ≡ sum_onto t (suc n) f
+unfolding sum_onto
+onto_first t zero f = refl
+onto_first t (suc n) f = ap (λ (s : Float). s ⊕ f (suc n)) (onto_first t n f)
 
-pub all_turn : (n : ℕ) (f : ℕ → Bool) → all_to n f ≡ true → f n ≡ true → all_to (n + 1) f ≡ true
-unfolding all_to
-all_turn n f e h = rw (add-one n, e, h)
+fold-onto : (t : Float) (xs : List Float) → fold (λ (s x : Float). s ⊕ x) t xs ≡ sum_onto t (length xs) (at xs)
+unfolding sum_onto
+fold-onto t [] = refl
+fold-onto t (x ∷ xs) = fold-onto (t ⊕ x) xs ∙ onto_first t (length xs) (at (x ∷ xs))
 
-pub all_whole : (n m : ℕ) (f : ℕ → Bool) → n ≡ m → all_to n f ≡ true → true ≡ all_to m f
-all_whole n m f q e = sym (sym (ap (λ (k : ℕ). all_to k f) q) ∙ e)
+pub total-sum_to : (xs : List Float) → total xs ≡ sum_to (length xs) (at xs)
+total-sum_to xs = fold-onto f0 xs ∙ onto_none (length xs) (at xs)
 
-and_false : (b : Bool) → (b && false) ≡ false
-and_false true = refl
-and_false false = refl
+-- ---- all finite
 
-pub all_fails : (n : ℕ) (f : ℕ → Bool) (i : ℕ) → i < n → f i ≡ false → false ≡ all_to n f
-unfolding all_to
-all_fails zero f i l h = absurd (omega arith)
-all_fails (suc n) f i l h =
-    ⊎_elim
-    (λ (e : i ≡ n). sym (ap (λ (b : Bool). all_to n f && b) (sym (ap f e) ∙ h) ∙ and_false (all_to n f)))
-    (λ (k : i < n). ap (λ (b : Bool). b && f n) (all_fails n f i k h))
-    (eq-or-lt_of_le (omega arith))
-
--- all of n are so, and so is each
-pub all_each : (n : ℕ) (f : ℕ → Bool) (i : ℕ) → i < n → all_to n f ≡ true → f i ≡ true
-all_each n f i h e = by (f i) (λ q. all_fails n f i h q)
-  where
-    by : (b : Bool) → (b ≡ false → false ≡ all_to n f) → b ≡ true
-    by true g = refl
-    by false g = g refl ∙ e
+pub each_finite : (xs : List Float) (i : ℕ) → i < length xs → finite xs ≡ true → is_finite (at xs i) ≡ true
+each_finite xs i l e = AllPass-from_list_all is_finite xs e i nan l

@@ -1,2 +1,2 @@
--- The laws that the proofs of `float_lists` cite, and those that the crates above do.
+-- The laws that the crates above cite.
 pub mod Laws

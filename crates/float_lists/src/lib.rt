@@ -1,47 +1,26 @@
 // Tests of all the floats of a list, and their sum.
 #![tactic(auto)]
 
-ghost use Rattle.std.specs.Prelude.{◌≡◌, not, length};
-ghost use Rattle.ieee.specs.Floats.{◌≺◌, f0};
-ghost use Rattle.float_lists.specs.Sums.{at, sum_to, all_to, finite_to};
+ghost use Rattle.std.specs.Prelude.{◌≡◌};
+ghost use Rattle.float_lists.specs.Sums.{finite, not_negative, total};
 
 // Whether all of a list are finite.
 pub fn all_finite(values: &[f64]) -> bool
-    ensures { result ≡ finite_to (length values.now) values.now }
+    ensures { result ≡ finite values.now }
 {
-    let mut i: usize = 0;
-    while i < values.len() {
-        if !ieee::is_finite(values[i]) {
-            return false;
-        }
-        i += 1;
-    }
-    true
+    values.iter().all(|x| ieee::is_finite(*x))
 }
 
 // Whether no weight is below 0.
 pub fn none_negative(weights: &[f64]) -> bool
-    ensures { result ≡ all_to (length weights.now) (λ i. not (at weights.now i ≺ f0)) }
+    ensures { result ≡ not_negative weights.now }
 {
-    let mut i: usize = 0;
-    while i < weights.len() {
-        if weights[i] < 0.0 {
-            return false;
-        }
-        i += 1;
-    }
-    true
+    weights.iter().all(|w| !(*w < 0.0))
 }
 
-// The sum of the values, from +0 and from the first on.
+// The sum of the values, from +0 and from the first on: `sum` of std would begin at -0.
 pub fn sum(values: &[f64]) -> f64
-    ensures { result ≡ sum_to (length values.now) (at values.now) }
+    ensures { result ≡ total values.now }
 {
-    let mut total = 0.0;
-    let mut i: usize = 0;
-    while i < values.len() {
-        total = total + values[i];
-        i += 1;
-    }
-    total
+    values.iter().fold(0.0, |total, x| total + *x)
 }

@@ -18,7 +18,7 @@ use Rattle.pixel.specs.declared.SourcePixel.{SourcePixel}
 use Rattle.footprint.specs.declared.BorderMode.{BorderMode}
 use Rattle.footprint.specs.declared.Footprint.TheVariants.{Rejected, Border, Cell}
 use Rattle.footprint.specs.declared.Footprint.{Footprint}
-use Rattle.footprint.specs.declared.View.{View}
+use Rattle.footprint.specs.Footprints.{View}
 use Rattle.footprint.proofs.Places.{Between, every_footprint, every_viewed}
 use Rattle.footprint.specs.Footprints.{neighbour, interior_cell, footprint, viewed_footprint}
 
@@ -56,7 +56,6 @@ Cut w h (Border v) = Unit {0}
 Cut w h (Cell x0 y0 x1 y1 fx fy) = (x0 ≤ x1) × (y0 ≤ y1) × (x1 ≤ w - 1) × (y1 ≤ h - 1)
 
 neighbour_cut : (i n : ℕ) (f : Float) → i ≤ n - 1 → (i ≤ neighbour i n f) × (neighbour i n f ≤ n - 1)
-unfolding neighbour
 neighbour_cut i n f h = go (f ≐ f0)
   where
     go : (b : Bool) → (i ≤ (when b then i else min (i + 1) (n - 1))) × ((when b then i else min (i + 1) (n - 1)) ≤ n - 1)
@@ -65,7 +64,7 @@ neighbour_cut i n f h = go (f ≐ f0)
 
 module _ (w h : ℕ) (wide : w < 2 ^ 32) (high : h < 2 ^ 32) where
   within_cut : (x y : Float) → Between (w - 1) x → Between (h - 1) y → Cut w h (interior_cell w h x y)
-  unfolding Cut interior_cell
+  unfolding Cut
   within_cut x y bx by =
       let across = neighbour_cut (whole_part x) w (x ⊖ float (whole_part x)) (whole_part_le (w - 1) x (omega arith) bx.finite bx.upto) in
       let down = neighbour_cut (whole_part y) h (y ⊖ float (whole_part y)) (whole_part_le (h - 1) y (omega arith) by.finite by.upto) in

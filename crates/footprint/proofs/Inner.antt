@@ -3,7 +3,7 @@ use mathlib.Core.Path.{◌≡◌, refl, sym, ap, ◌∙◌, subst}
 use Prim.Native.Nat.{ℕ, zero, suc, ◌+◌, ◌-◌, ◌*◌, ◌/◌, ◌^◌, ◌≤◌, ◌<◌, min}
 use native.Mathlib.Nat.{le_antisymm, le_trans, le_of_eq, le-div_iff_mul-le, mul-one, zero-mul, zero-lt-suc}
 use native.Mathlib.Omega.{arith}
-use mathlib.Core.Bool.{Bool, true, false, not, ◌&&◌, true≢false}
+use mathlib.Core.Bool.{Bool, true, false, true≢false}
 use lib.Ieee.{Float, nan, inf, fin, up, down, of_int, to_unsigned}
 use lib.Ieee.Exact.{HasValue}
 use lib.Dec.{ltb}
@@ -14,14 +14,12 @@ use Rattle.ieee.proofs.Magnitudes.{Within}
 use Rattle.ieee.proofs.Order.{gone}
 use Rattle.ieee.proofs.Zeros.{Zero, round_zero, zero_minus, above_zero, minus_itself, equals_zero}
 use Rattle.ieee_whole.specs.declared.Split.{Split}
-use Rattle.ieee_whole.specs.declared.Between.TheVariants.{Wholes}
+use Rattle.std.specs.Prelude.{Some}
 use Rattle.ieee_whole.specs.Whole.{split_whole, split_between}
 use Rattle.ieee_whole.proofs.WholeGuess.{float_value, wholes_are}
-use Rattle.footprint.specs.declared.BorderMode.TheVariants.{Reject}
 use Rattle.footprint.specs.declared.Footprint.TheVariants.{Cell}
-use Rattle.footprint.specs.Footprints.{neighbour, interior_cell, outside, footprint}
+use Rattle.footprint.specs.Footprints.{neighbour, interior_cell, inside}
 use Rattle.footprint.proofs.Cuts.{not_above, whole_part_le}
-use Rattle.footprint.proofs.Footprints.{with_weight, in_within}
 use Rattle.footprint.proofs.Places.{Between, inside_between}
 use Rattle.footprint.proofs.Weights.{between_within}
 
@@ -69,10 +67,10 @@ module _
     (wide : w < 2 ^ 32)
     (high : h < 2 ^ 32)
     (x y : Float)
-    (inside : (is_finite x && is_finite y && not (outside w h x y)) ≡ true)
+    (within : inside w h x y ≡ true)
     {a d : Split}
-    (across : Wholes a ≡ split_between x)
-    (down : Wholes d ≡ split_between y)
+    (across : Some a ≡ split_between x)
+    (down : Some d ≡ split_between y)
   where
     split_x : a ≡ split_whole x
     split_x = (wholes_are x across).0
@@ -88,20 +86,19 @@ module _
 
     pub inner_places : (a.whole < w - 1) × (d.whole < h - 1)
     inner_places =
-        let between = inside_between w h x y inside in (
+        let between = inside_between w h x y within in (
           rw split_x (before_last (w - 1) x (omega arith) between.0 (rw split_x at right)),
           rw split_y (before_last (h - 1) y (omega arith) between.1 (rw split_y at lower)),
         )
 
-    pub inner_cell : Cell a.whole d.whole (a.whole + 1) (d.whole + 1) a.left d.left ≡ footprint w h Reject x y
-    unfolding interior_cell
+    pub inner_cell : Cell a.whole d.whole (a.whole + 1) (d.whole + 1) a.left d.left ≡ interior_cell w h x y
     inner_cell =
         ap (λ (i : ℕ). Cell a.whole d.whole i (d.whole + 1) a.left d.left) (with_weight a.whole w a.left right (uncut a.whole (w - 1) inner_places.0))
         ∙ ap (λ (i : ℕ). Cell a.whole d.whole (neighbour a.whole w a.left) i a.left d.left) (with_weight d.whole h d.left lower (uncut d.whole (h - 1) inner_places.1))
-        ∙ cell ∙ in_within w h Reject x y inside
+        ∙ rw (split_x, split_y)
       where
         uncut : (i n : ℕ) → i < n → i + 1 ≡ min (i + 1) n
         uncut i n l = omega arith
 
-        cell : Cell a.whole d.whole (neighbour a.whole w a.left) (neighbour d.whole h d.left) a.left d.left ≡ interior_cell w h x y
-        cell = rw (split_x, split_y)
+        with_weight : (i n : ℕ) (f : Float) {j : ℕ} → (f ≐ f0) ≡ false → j ≡ min (i + 1) (n - 1) → j ≡ neighbour i n f
+        with_weight i n f h e = rw (h, neighbour) e

@@ -16,7 +16,7 @@ use Rattle.pixel.specs.declared.SourcePixel.{SourcePixel}
 use Rattle.footprint.specs.declared.BorderMode.{BorderMode}
 use Rattle.footprint.specs.declared.Footprint.{Footprint}
 use Rattle.footprint.specs.declared.Footprint.TheVariants.{Rejected, Border, Cell}
-use Rattle.footprint.specs.declared.View.{View}
+use Rattle.footprint.specs.Footprints.{View}
 use Rattle.footprint.specs.AllFour.{all_four}
 use Rattle.footprint.specs.Footprints.{neighbour, interior_cell, footprint, viewed_footprint}
 use Rattle.footprint.proofs.Cuts.{not_above}
@@ -26,7 +26,7 @@ use Rattle.footprint.proofs.Places.{Between, every_footprint, every_viewed}
 pub all-four-is : (w h : ℕ) (x y : Float)
     → all_four w h (interior_cell w h x y)
     ≡ Cell (whole_part x) (whole_part y) (min (whole_part x + 1) (w - 1)) (min (whole_part y + 1) (h - 1)) (x ⊖ float (whole_part x)) (y ⊖ float (whole_part y))
-unfolding all_four interior_cell
+unfolding all_four
 all-four-is w h x y = refl
 
 -- ---- the fractions are not large
@@ -57,7 +57,7 @@ Weighed w h (Cell x0 y0 x1 y1 fx fy) = (x1 ≡ neighbour x0 w fx) × (y1 ≡ nei
 
 module _ (w h : ℕ) (wide : w < 2 ^ 32) (high : h < 2 ^ 32) where
   inside_weighed : (x y : Float) → Between (w - 1) x → Between (h - 1) y → Weighed w h (interior_cell w h x y)
-  unfolding Weighed interior_cell
+  unfolding Weighed
   inside_weighed x y bx by = (refl, refl, fraction_within (w - 1) x (omega arith) bx)
 
   pub footprint_weighed : (b : BorderMode) (x y : Float) → Weighed w h (footprint w h b x y)

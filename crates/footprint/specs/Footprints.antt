@@ -1,31 +1,28 @@
 -- sampling.rs, `sample_bilinear` (17 to 47): where a sample falls, worked out without the photograph;
 -- and sample.rs, `SourceView::sample` (744 to 750), where a sample of a scene falls. Definitions only,
 -- to be believed.
-use Rattle.std.specs.Prelude.{ℕ, ◌+◌, ◌-◌, min, Bool, true, not, ◌||◌, Float}
+use Rattle.std.specs.Prelude.{ℕ, ◌+◌, ◌-◌, min, Bool, true, not, ◌&&◌, ◌||◌, Float, Option, Some, None}
 use Rattle.prelude.specs.Prelude.{when◌then◌else◌}
 use Rattle.ieee.specs.Parts.{is_finite}
 use Rattle.ieee.specs.Floats.{◌⊖◌, ◌≺◌, ◌≐◌, f0, float, whole_part}
 use Rattle.pixel.specs.declared.SourcePixel.{SourcePixel}
-use Rattle.camera.specs.declared.SourcePoint.{SourcePoint}
-use Rattle.camera.specs.declared.SourcePoint.TheVariants.{At, Nowhere}
+use Rattle.camera.specs.declared.CameraCalibration.{CameraCalibration}
 use Rattle.camera.specs.Camera.{valid_camera, rectified_to_source}
 use Rattle.footprint.specs.declared.BorderMode.{BorderMode}
 use Rattle.footprint.specs.declared.BorderMode.TheVariants.{Reject, Clamp, Constant}
 use Rattle.footprint.specs.declared.Footprint.{Footprint}
 use Rattle.footprint.specs.declared.Footprint.TheVariants.{Rejected, Border, Cell}
-use Rattle.footprint.specs.declared.View.{View}
-use Rattle.footprint.specs.declared.View.TheVariants.{Plain, Calibrated}
 use Rattle.footprint.specs.declared.Scene.{Scene}
 
 -- ---- sampling.rs
 
 -- the column or row after i, cut at the last of n, where the fraction gives it weight, and else i
-unfoldable pub neighbour : ℕ → ℕ → Float → ℕ
+abbrev pub neighbour : ℕ → ℕ → Float → ℕ
 neighbour i n fraction = when fraction ≐ f0 then i else min (i + 1) (n - 1)
 
 -- among the pixels that bear weight: where the x fraction is 0, or -0, the right column is the left
 -- one, and where the y fraction is, the lower row is the upper one
-unfoldable pub interior_cell : ℕ → ℕ → Float → Float → Footprint
+abbrev pub interior_cell : ℕ → ℕ → Float → Float → Footprint
 interior_cell w h x y =
     let x0 = whole_part x in
     let y0 = whole_part y in
@@ -34,16 +31,19 @@ interior_cell w h x y =
     Cell x0 y0 (neighbour x0 w fx) (neighbour y0 h fy) fx fy
 
 -- Rust's `x.clamp(0.0, most)`
-unfoldable pub clamped : Float → Float → Float
+abbrev pub clamped : Float → Float → Float
 clamped x most = when x ≺ f0 then f0 else when most ≺ x then most else x
 
-unfoldable pub at_border : ℕ → ℕ → BorderMode → Float → Float → Footprint
+abbrev pub at_border : ℕ → ℕ → BorderMode → Float → Float → Footprint
 at_border w h Reject x y = Rejected
 at_border w h Clamp x y = interior_cell w h (clamped x (float (w - 1))) (clamped y (float (h - 1)))
 at_border w h (Constant v) x y = Border v
 
-unfoldable pub outside : ℕ → ℕ → Float → Float → Bool
+abbrev pub outside : ℕ → ℕ → Float → Float → Bool
 outside w h x y = (x ≺ f0) || (y ≺ f0) || (float (w - 1) ≺ x) || (float (h - 1) ≺ y)
+
+abbrev pub inside : ℕ → ℕ → Float → Float → Bool
+inside w h x y = is_finite x && is_finite y && not (outside w h x y)
 
 -- finiteness comes first, under every border mode
 unfoldable pub footprint : ℕ → ℕ → BorderMode → Float → Float → Footprint
@@ -53,18 +53,22 @@ footprint w h b x y =
 
 -- ---- sample.rs, `SourceView::sample`: through the camera, where there is one, with the border rejected
 
-unfoldable pub point_footprint : ℕ → ℕ → SourcePoint → Footprint
-point_footprint w h (At q) = footprint w h Reject q.0 q.1
-point_footprint w h Nowhere = Rejected
+-- a photograph is seen as it is, or through a camera
+abbrev pub View : Type 0
+View = Option CameraCalibration
 
-unfoldable pub viewed_footprint : ℕ → ℕ → View → SourcePixel → Footprint
-viewed_footprint w h Plain q = footprint w h Reject q.0 q.1
-viewed_footprint w h (Calibrated c) q = point_footprint w h (rectified_to_source c q)
+abbrev pub point_footprint : ℕ → ℕ → Option SourcePixel → Footprint
+point_footprint w h (Some q) = footprint w h Reject q.0 q.1
+point_footprint w h None = Rejected
+
+abbrev pub viewed_footprint : ℕ → ℕ → View → SourcePixel → Footprint
+viewed_footprint w h None q = footprint w h Reject q.0 q.1
+viewed_footprint w h (Some c) q = point_footprint w h (rectified_to_source c q)
 
 abbrev pub scene_footprint : Scene → SourcePixel → Footprint
 scene_footprint s q = viewed_footprint s.width s.height s.view q
 
 -- check 6
-unfoldable pub good_view : View → Bool
-good_view Plain = true
-good_view (Calibrated c) = valid_camera c
+abbrev pub good_view : View → Bool
+good_view None = true
+good_view (Some c) = valid_camera c

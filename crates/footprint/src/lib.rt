@@ -1,14 +1,14 @@
 // sampling.rs and sample.rs: where a sample falls, worked out without the photograph.
 #![tactic(auto)]
 
-ghost use Rattle.std.specs.Prelude.{◌≡◌, ℕ, ◌+◌, ◌-◌, min, ◌&&◌, not};
+ghost use Rattle.std.specs.Prelude.{◌≡◌, ℕ, ◌+◌, ◌-◌, min, ◌&&◌, not, true, IfSome};
 ghost use Rattle.ieee.specs.Parts.{is_finite};
+ghost use Rattle.ieee.specs.Floats.{◌≺◌, f0, float};
 ghost use Rattle.camera.specs.Camera.{rectified_to_source};
-ghost use Rattle.footprint.specs.Footprints.{clamped, outside, neighbour as neighbour_of, interior_cell, at_border, footprint as footprint_of, point_footprint, viewed_footprint, scene_footprint, good_view};
+ghost use Rattle.footprint.specs.Footprints.{inside, neighbour as neighbour_of, interior_cell, at_border, footprint as footprint_of, point_footprint, viewed_footprint, scene_footprint, good_view};
 ghost use Rattle.footprint.specs.declared.BorderMode.TheVariants.{Reject};
 
-use camera::{CameraCalibration, SourcePoint};
-use ieee_whole::Between;
+use camera::CameraCalibration;
 use pixel::SourcePixel;
 
 // Behaviour outside the pixels' centres.
@@ -38,12 +38,8 @@ pub enum Footprint {
     },
 }
 
-// A photograph as it is, or through a camera.
-#[derive(Clone, Copy)]
-pub enum View {
-    Plain,
-    Calibrated(CameraCalibration),
-}
+// The camera that a photograph is seen through, if any.
+pub type View = Option<CameraCalibration>;
 
 // What all samples of a run share: the photograph's size, and the camera.
 #[derive(Clone, Copy)]
@@ -71,130 +67,134 @@ fn neighbour(i: u32, n: u32, fraction: f64) -> u32
     if fraction == 0.0 { i } else { after }
 }
 
-// Whether a place lies within the pixels' centres, which no NaN and no infinity does.
-fn is_inside(width: u32, height: u32, x: f64, y: f64) -> bool
-    ensures { result ≡ (is_finite x && is_finite y && not (outside width height x y)) }
+// Whether a coordinate lies from 0 to `most`, which no NaN and no infinity does.
+#[tactic(auto, using(crate::proofs::Footprints::between))]
+fn is_within(x: f64, most: u32) -> bool
+    ensures { result ≡ (is_finite x && not (x ≺ f0) && not (float most ≺ x)) }
 {
-    if x >= 0.0 {
-        if x <= photograph::last(width) as f64 {
-            if y >= 0.0 {
-                return y <= photograph::last(height) as f64;
-            }
+    x >= 0.0 && x <= most as f64
+}
+
+// How wide and how high a picture is.
+#[derive(Clone, Copy)]
+struct Size {
+    width: u32,
+    height: u32,
+}
+
+impl Size {
+    // Whether a place lies within the pixels' centres.
+    #[tactic(auto, using(crate::proofs::Footprints::gathered))]
+    fn is_inside(self, x: f64, y: f64) -> bool
+        ensures { result ≡ inside self.width self.height x y }
+    {
+        is_within(x, photograph::last(self.width)) && is_within(y, photograph::last(self.height))
+    }
+
+    // The four pixels that a place inside the picture falls among, as far as they bear weight, and its
+    // fractions.
+    fn interior_cell(self, x: f64, y: f64) -> Footprint
+        ensures { result ≡ interior_cell self.width self.height x y }
+    {
+        let across = ieee_whole::split_whole(x);
+        let down = ieee_whole::split_whole(y);
+        Footprint::Cell {
+            x0: across.whole,
+            y0: down.whole,
+            x1: neighbour(across.whole, self.width, across.left),
+            y1: neighbour(down.whole, self.height, down.left),
+            fx: across.left,
+            fy: down.left,
         }
     }
-    false
-}
 
-// Rust's `x.clamp(0.0, most)`.
-fn clamp(x: f64, most: f64) -> f64
-    ensures { result ≡ clamped x most }
-{
-    if x < 0.0 {
-        return 0.0;
+    // Where a sample outside falls.
+    #[tactic(auto, using(crate::proofs::Places::from_zero))]
+    fn at_border(self, border: BorderMode, x: f64, y: f64) -> Footprint
+        ensures { result ≡ at_border self.width self.height border x y }
+    {
+        match border {
+            BorderMode::Reject => Footprint::Rejected,
+            BorderMode::Clamp => self.interior_cell(
+                x.clamp(0.0, photograph::last(self.width) as f64),
+                y.clamp(0.0, photograph::last(self.height) as f64),
+            ),
+            BorderMode::Constant(v) => Footprint::Border(v),
+        }
     }
-    if x > most { most } else { x }
-}
 
-// The four pixels that a place inside the picture falls among, as far as they bear weight, and its
-// fractions.
-fn interior_cell(width: u32, height: u32, x: f64, y: f64) -> Footprint
-    ensures { result ≡ interior_cell width height x y }
-{
-    let across = ieee_whole::split_whole(x);
-    let down = ieee_whole::split_whole(y);
-    Footprint::Cell {
-        x0: across.whole,
-        y0: down.whole,
-        x1: neighbour(across.whole, width, across.left),
-        y1: neighbour(down.whole, height, down.left),
-        fx: across.left,
-        fy: down.left,
+    // The four pixels around a place inside whose coordinates both lie between whole numbers: all four
+    // bear weight, and neither the column nor the row is the last.
+    #[tactic(auto, using(crate::proofs::Inner::inner_places))]
+    fn inner_cell(self, x: f64, y: f64) -> Option<Footprint>
+        requires { inside self.width self.height x y ≡ true }
+        ensures { IfSome result (λ cell. cell ≡ interior_cell self.width self.height x y) }
+    {
+        let across = ieee_whole::split_between(x)?;
+        let down = ieee_whole::split_between(y)?;
+        Some(Footprint::Cell {
+            x0: across.whole,
+            y0: down.whole,
+            x1: across.whole + 1,
+            y1: down.whole + 1,
+            fx: across.left,
+            fy: down.left,
+        })
     }
-}
 
-// Where a sample outside falls.
-fn at_border(width: u32, height: u32, border: BorderMode, x: f64, y: f64) -> Footprint
-    ensures { result ≡ at_border width height border x y }
-{
-    match border {
-        BorderMode::Reject => Footprint::Rejected,
-        BorderMode::Clamp => interior_cell(
-            width,
-            height,
-            clamp(x, photograph::last(width) as f64),
-            clamp(y, photograph::last(height) as f64),
-        ),
-        BorderMode::Constant(v) => Footprint::Border(v),
+    // Where a sample falls with the border rejected. Nearly always both coordinates lie between whole
+    // numbers, so that is asked first.
+    #[tactic(auto, using(crate::proofs::Footprints::in_within, crate::proofs::Footprints::rejected))]
+    fn rejecting_footprint(self, x: f64, y: f64) -> Footprint
+        ensures { result ≡ footprint_of self.width self.height Reject x y }
+    {
+        if !self.is_inside(x, y) {
+            return Footprint::Rejected;
+        }
+        match self.inner_cell(x, y) {
+            Some(cell) => cell,
+            None => self.interior_cell(x, y),
+        }
     }
 }
 
 // Where a sample falls. Nearly all fall inside, so that is asked first; the order of the tests does not show.
+#[tactic(auto, using(crate::proofs::Footprints::in_within, crate::proofs::Footprints::off_outside), unfolding(crate::specs::Footprints::footprint))]
 pub fn footprint_at(width: u32, height: u32, border: BorderMode, x: f64, y: f64) -> Footprint
     ensures { result ≡ footprint_of width height border x y }
 {
-    if is_inside(width, height, x, y) {
-        return interior_cell(width, height, x, y);
+    let size = Size { width, height };
+    if size.is_inside(x, y) {
+        return size.interior_cell(x, y);
     }
-    if !ieee::is_finite(x) {
+    if !ieee::is_finite(x) || !ieee::is_finite(y) {
         return Footprint::Rejected;
     }
-    if !ieee::is_finite(y) {
-        return Footprint::Rejected;
-    }
-    at_border(width, height, border, x, y)
-}
-
-// Where a sample falls with the border rejected. Nearly always both coordinates lie between whole
-// numbers: then all four pixels bear weight, and neither the column nor the row is the last.
-fn rejecting_footprint(width: u32, height: u32, x: f64, y: f64) -> Footprint
-    ensures { result ≡ footprint_of width height Reject x y }
-{
-    if is_inside(width, height, x, y) {
-        match ieee_whole::split_between(x) {
-            Between::Wholes(across) => match ieee_whole::split_between(y) {
-                Between::Wholes(down) => {
-                    return Footprint::Cell {
-                        x0: across.whole,
-                        y0: down.whole,
-                        x1: across.whole + 1,
-                        y1: down.whole + 1,
-                        fx: across.left,
-                        fy: down.left,
-                    };
-                }
-                Between::Nothing => {}
-            },
-            Between::Nothing => {}
-        }
-        return interior_cell(width, height, x, y);
-    }
-    Footprint::Rejected
+    size.at_border(border, x, y)
 }
 
 // A place seen through a camera. The camera's tests and steps stand here one by one: a call that takes the whole
 // camera at every sample made a refinement a quarter slower. Whether the result is finite its footprint tells.
-fn through_camera(camera: CameraCalibration, p: SourcePixel) -> SourcePoint
+#[tactic(auto, using(crate::proofs::Footprints::if_finite_footprint))]
+fn through_camera(camera: CameraCalibration, p: SourcePixel) -> Option<SourcePixel>
     ensures { (w h : ℕ) → point_footprint w h result ≡ point_footprint w h (rectified_to_source camera p) }
 {
-    if !ieee::is_finite(p.0) {
-        return SourcePoint::Nowhere;
-    }
-    if !ieee::is_finite(p.1) {
-        return SourcePoint::Nowhere;
+    if !ieee::is_finite(p.0) || !ieee::is_finite(p.1) {
+        return None;
     }
     if camera.is_identity() {
-        return SourcePoint::At(p);
+        return Some(p);
     }
-    SourcePoint::At(camera.project(p))
+    Some(camera.project(p))
 }
 
 // A place in the photograph: through the camera, where there is one.
-fn through_view(view: View, p: SourcePixel) -> SourcePoint
+fn through_view(view: View, p: SourcePixel) -> Option<SourcePixel>
     ensures { (w h : ℕ) → point_footprint w h result ≡ viewed_footprint w h view p }
 {
     match view {
-        View::Plain => SourcePoint::At(p),
-        View::Calibrated(camera) => through_camera(camera, p),
+        None => Some(p),
+        Some(camera) => through_camera(camera, p),
     }
 }
 
@@ -203,24 +203,24 @@ fn through_view(view: View, p: SourcePixel) -> SourcePoint
 pub fn source_footprint(scene: Scene, p: SourcePixel) -> Footprint
     ensures { result ≡ scene_footprint scene p }
 {
-    let view = scene.view;
-    let placed = through_view(view, p);
-    match placed {
-        SourcePoint::At(q) => rejecting_footprint(scene.width, scene.height, q.0, q.1),
-        SourcePoint::Nowhere => Footprint::Rejected,
+    let size = Size {
+        width: scene.width,
+        height: scene.height,
+    };
+    match through_view(scene.view, p) {
+        Some(q) => size.rejecting_footprint(q.0, q.1),
+        None => Footprint::Rejected,
     }
 }
 
 // ---- entry check 6
 
-impl View {
-    // Not refused by 6.
-    pub fn valid(self) -> bool
-        ensures { result ≡ good_view self }
-    {
-        match self {
-            View::Plain => true,
-            View::Calibrated(camera) => camera.valid(),
-        }
+// Whether there is no camera, or one that is not refused by `Lens`.
+pub fn good_view(view: View) -> bool
+    ensures { result ≡ good_view view }
+{
+    match view {
+        None => true,
+        Some(camera) => camera.valid(),
     }
 }

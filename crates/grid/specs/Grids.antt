@@ -1,7 +1,7 @@
 -- bitmatrix.rs, `get` (60 to 63): the modules of a label, those of an edge and the next inward, as
 -- refine.rs takes them (533 to 539); and which grids are refused by 3. Definitions only, to be
 -- believed.
-use Rattle.std.specs.Prelude.{ℕ, zero, suc, ◌+◌, ◌-◌, ◌*◌, Bool, true, ◌&&◌, List, [], ◌∷◌, leb, eqb, get_or, length}
+use Rattle.std.specs.Prelude.{ℕ, ◌+◌, ◌-◌, ◌*◌, Bool, true, ◌&&◌, List, [], ◌∷◌, leb, eqb, get_or, length, take}
 use Rattle.prelude.specs.Prelude.{when◌then◌else◌}
 
 -- one byte a module, by rows; 1 is dark
@@ -31,11 +31,10 @@ inward_dark g e m = edge_dark g e m 1
 
 -- ---- entry check 3
 
--- the first n are 0 or 1
-unfoldable pub bits : ℕ → List ℕ → Bool
-bits zero ms = true
-bits (suc n) [] = true
-bits (suc n) (m ∷ ms) = leb m 1 && bits n ms
+-- all are 0 or 1
+unfoldable pub bits : List ℕ → Bool
+bits [] = true
+bits (m ∷ ms) = leb m 1 && bits ms
 
-unfoldable pub good_grid : Grid → Bool
-good_grid g = leb 2 g.dim && leb g.dim 177 && leb (g.dim * g.dim) (length g.modules) && bits (g.dim * g.dim) g.modules
+abbrev pub good_grid : Grid → Bool
+good_grid g = leb 2 g.dim && leb g.dim 177 && leb (g.dim * g.dim) (length g.modules) && bits (take (g.dim * g.dim) g.modules)

@@ -8,17 +8,17 @@ use Rattle.homography.specs.declared.PerspectiveTransform.{PerspectiveTransform}
 
 -- ---- `map`, `scaled`, `inverse`, `then`
 
-unfoldable pub map_point : PerspectiveTransform → Float → Float → SourcePixel
+abbrev pub map_point : PerspectiveTransform → Float → Float → SourcePixel
 map_point m u v =
     let w = m.a13 ⊗ u ⊕ m.a23 ⊗ v ⊕ m.a33 in
     source ((m.a11 ⊗ u ⊕ m.a21 ⊗ v ⊕ m.a31) ⊘ w) ((m.a12 ⊗ u ⊕ m.a22 ⊗ v ⊕ m.a32) ⊘ w)
 
 -- (u, v) to (sx u, sy v)
-unfoldable pub scaled : Float → Float → PerspectiveTransform
+abbrev pub scaled : Float → Float → PerspectiveTransform
 scaled sx sy = record { a11 = sx; a21 = f0; a31 = f0; a12 = f0; a22 = sy; a32 = f0; a13 = f0; a23 = f0; a33 = f1 }
 
 -- the adjugate: the inverse up to a scale, which a map does not see
-unfoldable pub inverse : PerspectiveTransform → PerspectiveTransform
+abbrev pub inverse : PerspectiveTransform → PerspectiveTransform
 inverse m = record {
   a11 = m.a22 ⊗ m.a33 ⊖ m.a23 ⊗ m.a32;
   a21 = m.a23 ⊗ m.a31 ⊖ m.a21 ⊗ m.a33;
@@ -32,11 +32,11 @@ inverse m = record {
 }
 
 -- a row of the outer map by a column of the inner
-unfoldable pub dot : (a b c x y z : Float) → Float
+abbrev pub dot : (a b c x y z : Float) → Float
 dot a b c x y z = a ⊗ x ⊕ b ⊗ y ⊕ c ⊗ z
 
 -- `inner.then(outer)`: the matrix product of outer and inner
-unfoldable pub composed : PerspectiveTransform → PerspectiveTransform → PerspectiveTransform
+abbrev pub composed : PerspectiveTransform → PerspectiveTransform → PerspectiveTransform
 composed inner outer = record {
   a11 = dot outer.a11 outer.a21 outer.a31 inner.a11 inner.a12 inner.a13;
   a21 = dot outer.a11 outer.a21 outer.a31 inner.a21 inner.a22 inner.a23;

@@ -7,6 +7,7 @@ ghost use Rattle.homography.specs.Homography.{composed, dot, inverse, map_point,
 use pixel::SourcePixel;
 
 // (u, v) goes to ((a11 u + a21 v + a31) / w, (a12 u + a22 v + a32) / w), w = a13 u + a23 v + a33.
+// Nine names and no array, as in the Rust.
 #[derive(Clone, Copy)]
 pub struct PerspectiveTransform {
     pub a11: f64,

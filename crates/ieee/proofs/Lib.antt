@@ -4,7 +4,6 @@
 pub mod Examples
 pub mod Patterns
 pub mod Order
-pub mod Larger
 pub mod Counts
 pub mod Magnitudes
 pub mod Zeros

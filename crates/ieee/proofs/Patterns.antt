@@ -1,6 +1,6 @@
 -- Bit patterns of binary64: NaN tests, what clearing the sign bit does, and what the format allows. Assumes nothing.
 use mathlib.Core.Path.{◌≡◌, refl, sym, ap, ◌∙◌, subst}
-use mathlib.Core.Bool.{Bool, true, false, not, ◌&&◌, cond, true≢false}
+use mathlib.Core.Bool.{Bool, true, false, not, ◌&&◌, cond}
 use Prim.Native.Nat.{ℕ, zero, suc, ◌+◌, ◌*◌, ◌/◌, ◌%◌, ◌^◌, ◌≤◌, ◌<◌}
 use native.Mathlib.Nat.{mod-lt, mod-eq_of_lt, not-le_of_lt}
 use native.Mathlib.Omega.{arith}
@@ -10,7 +10,7 @@ use lib.Pow.{pow_pos, mod-mod-pow}
 use lib.Bits.{bit_and, and_mask}
 use lib.Ieee.{Float, nan, inf, fin, binary64, up, down, odd, fits, of_fields, of_bits, to_bits, nan_bits, is_nan, ne, div}
 use lib.Ieee.Fits.{and_l, and_r}
-use lib.Ieee.Bits.{nan_bits_is, nan_bits_above, is_false}
+use lib.Ieee.Bits.{nan_bits_above, is_false}
 use Rattle.ieee.specs.Parts.{magnitude, is_finite}
 
 -- ---- a test's answer as a fact
@@ -30,12 +30,6 @@ same_test false false f g = refl
 
 -- ---- NaN
 
-pub equals_itself : (x : Float) → ne x x ≡ false → T (not (is_nan x))
-unfolding ne is_nan
-equals_itself nan h = absurd (true≢false h)
-equals_itself (inf s) h = tt
-equals_itself (fin s m e) h = tt
-
 -- 0.0 by its bit pattern, as MIR has it
 pub zero_is : of_bits binary64 0 ≡ fin false 0 (pos 0)
 unfolding of_bits
@@ -46,24 +40,9 @@ pub zero_by_zero : div binary64 (of_bits binary64 0) (of_bits binary64 0) ≡ na
 unfolding div of_bits
 zero_by_zero = refl
 
-pub nan_bits_lem : 0x7ff8_0000_0000_0000 ≡ to_bits binary64 nan
-unfolding to_bits
-nan_bits_lem = refl
-
-is_nan_lem : (x : Float) → T (is_nan x) → x ≡ nan
-unfolding is_nan
-is_nan_lem nan t = refl
-is_nan_lem (inf s) t = absurd t
-is_nan_lem (fin s m e) t = absurd t
-
 -- the pattern without its sign, as the code masks it
 pub unsigned : (b : ℕ) → bit_and b 0x7fff_ffff_ffff_ffff ≡ b % 2 ^ 63
 unsigned b = and_mask b 63
-
-pub above_infinity : (b : ℕ) → 0x7ff0_0000_0000_0000 < bit_and b 0x7fff_ffff_ffff_ffff → of_bits binary64 b ≡ nan
-above_infinity b h =
-    is_nan_lem (of_bits binary64 b)
-    (subst T (nan_bits_is binary64 b) (subst T (sym (nan_bits_above binary64 b)) (lt→ltb 0x7ff0_0000_0000_0000 (b % 2 ^ 63) (subst (λ (k : ℕ). 0x7ff0_0000_0000_0000 < k) (unsigned b) h))))
 
 pub no_nan_pattern : (b : ℕ) → bit_and b 0x7fff_ffff_ffff_ffff ≤ 0x7ff0_0000_0000_0000 → T (not (nan_bits binary64 b))
 no_nan_pattern b h =

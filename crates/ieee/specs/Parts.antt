@@ -21,7 +21,7 @@ is_finite (inf s) = false
 is_finite (fin s m e) = true
 
 -- The larger of a and b, and of two zeros the first. Where one of them is a NaN it is the other: Rust's `f64::max`.
-unfoldable pub maximum : Float → Float → Float
+abbrev pub maximum : Float → Float → Float
 maximum a b =
     when is_nan a then b else
     when is_nan b then a else

@@ -101,11 +101,10 @@ fn digits_root(a: u64) -> u64
     let mut rest: u64 = a << 10;
     let mut q: u64 = 0;
     let mut r: u64 = 0;
-    let mut i: u64 = 0;
-    while i < 53 {
+    for _digit in 0..53u64 {
         let d = r * 4 + (rest >> 62);
         let t = q * 4 + 1;
-        rest = rest << 2;
+        rest <<= 2;
         if d < t {
             q = q * 2;
             r = d;
@@ -113,7 +112,6 @@ fn digits_root(a: u64) -> u64
             q = q * 2 + 1;
             r = d - t;
         }
-        i += 1;
     }
     if r > q { q + 1 } else { q }
 }

@@ -11,8 +11,8 @@ use Rattle.ieee.specs.Floats.{◌⊖◌, ◌⊗◌, ◌≺◌, ◌≼◌, f0, f1
 use Rattle.ieee.specs.Parts.{is_finite}
 use Rattle.ieee_whole.specs.Whole.{split_whole, if_between, split_between}
 use Rattle.ieee_whole.specs.declared.Split.{Split}
-use Rattle.ieee_whole.specs.declared.Between.{Between}
-use Rattle.ieee_whole.specs.declared.Between.TheVariants.{Wholes, Nothing}
+use Rattle.std.specs.Prelude.{Option, Some, None, is_some}
+use Rattle.std.specs.Option.{unwrap_or}
 use Rattle.ieee.proofs.Order.{at_most, gone, zeros, not_more, else_more}
 use Rattle.ieee.proofs.Magnitudes.{Signed, round_signed}
 use Rattle.ieee.proofs.Squares.{square_below}
@@ -148,15 +148,14 @@ leaves w (fin false k d) (fin false m e) v h = by (fin false k d ≼ fin false m
         let less = else_more (fin false k d) (fin false m e) refl refl hb in
         absurd (true≢false (sym h ∙ ap (λ (u : Float). f0 ≺ u) (other (m * up e * down d) (k * up d * down e) (down e * down d) less) ∙ not_above (k * up d * down e - m * up e * down d) (down e * down d)))
 
-between : (s : Split) → (f0 ≺ s.left) ≡ true → (s.left ≺ f1) ≡ true → Wholes s ≡ if_between s
-unfolding if_between
+between : (s : Split) → (f0 ≺ s.left) ≡ true → (s.left ≺ f1) ≡ true → Some s ≡ if_between s
 between s h g = rw (h, g)
 
 left-fits : (w : ℕ) (x : Float) → T (fits binary64 (x ⊖ float w))
 unfolding sub
 left-fits w x = add-fits binary64 x (neg (float w))
 
-pub between_at : (w : ℕ) (x : Float) → w < 2 ^ 32 → ((x ⊖ float w) ⊗ (x ⊖ float w) ≺ (x ⊖ float w)) ≡ true → Wholes (record { whole = w; left = x ⊖ float w }) ≡ split_between x
+pub between_at : (w : ℕ) (x : Float) → w < 2 ^ 32 → ((x ⊖ float w) ⊗ (x ⊖ float w) ≺ (x ⊖ float w)) ≡ true → Some (record { whole = w; left = x ⊖ float w }) ≡ split_between x
 between_at w x small h =
     let amid = square_below (x ⊖ float w) (left-fits w x) h in
     between (record { whole = w; left = x ⊖ float w }) amid.0 amid.1
@@ -164,24 +163,15 @@ between_at w x small h =
 
 -- ---- what a split of `split_between` is
 
-split_in : Between → Split → Split
-split_in (Wholes s) other = s
-split_in Nothing other = other
-
-is_wholes : Between → Bool
-is_wholes (Wholes s) = true
-is_wholes Nothing = false
-
-pub wholes_are : (x : Float) {a : Split} → Wholes a ≡ split_between x → (a ≡ split_whole x) × ((f0 ≺ a.left) ≡ true)
-unfolding if_between is_wholes split_in
+pub wholes_are : (x : Float) {a : Split} → Some a ≡ split_between x → (a ≡ split_whole x) × ((f0 ≺ a.left) ≡ true)
 wholes_are x {a} h = by (f0 ≺ (split_whole x).left && (split_whole x).left ≺ f1) refl h
   where
     first : (b g : Bool) → (b && g) ≡ true → b ≡ true
     first true g k = refl
     first false g k = k
 
-    by : (b : Bool) → (f0 ≺ (split_whole x).left && (split_whole x).left ≺ f1) ≡ b → Wholes a ≡ cond b (Wholes (split_whole x)) Nothing → (a ≡ split_whole x) × ((f0 ≺ a.left) ≡ true)
+    by : (b : Bool) → (f0 ≺ (split_whole x).left && (split_whole x).left ≺ f1) ≡ b → Some a ≡ cond b (Some (split_whole x)) None → (a ≡ split_whole x) × ((f0 ≺ a.left) ≡ true)
     by true e k =
-        let same = ap (λ (t : Between). split_in t a) k in
+        let same = ap (λ (t : Option Split). unwrap_or t a) k in
         (same, ap (λ (s : Split). f0 ≺ s.left) same ∙ first (f0 ≺ (split_whole x).left) ((split_whole x).left ≺ f1) e)
-    by false e k = absurd (true≢false (ap is_wholes k))
+    by false e k = absurd (true≢false (ap is_some k))

@@ -1,13 +1,11 @@
 -- What the functions of `ieee_whole` compute: Rust's `floor`, `ceil` and `as u32` of `f64`. Definitions only, to be
 -- believed. A value is one of `lib.Ieee`: `nan`, an infinity `inf s`, or `fin s m e`, the number m * 2 ^ e, negative
 -- where s is true; 2 ^ e is the fraction up e / down e.
-use Rattle.std.specs.Prelude.{ℕ, ◌+◌, ◌-◌, ◌*◌, ◌/◌, cond, ◌&&◌, Float}
+use Rattle.std.specs.Prelude.{ℕ, ◌+◌, ◌-◌, ◌*◌, ◌/◌, cond, ◌&&◌, Float, Option, Some, None}
 use Rattle.std.specs.Float.{nan, inf, fin, binary64}
 use Rattle.std.specs.Float.Ieee.{up, down, round}
 use Rattle.ieee.specs.Floats.{◌⊖◌, ◌≺◌, f0, f1, float, whole_part}
 use Rattle.ieee_whole.specs.declared.Split.{Split}
-use Rattle.ieee_whole.specs.declared.Between.{Between}
-use Rattle.ieee_whole.specs.declared.Between.TheVariants.{Wholes, Nothing}
 
 -- a / c cut to a whole number
 abbrev pub floor_div : ℕ → ℕ → ℕ
@@ -35,10 +33,10 @@ ceil_of (fin s m e) = round binary64 s (cond s (floor_div (m * up e) (down e)) (
 abbrev pub split_whole : Float → Split
 split_whole x = record { whole = whole_part x; left = x ⊖ float (whole_part x) }
 
--- a split of which something between 0 and 1 is left
-unfoldable pub if_between : Split → Between
-if_between s = cond (f0 ≺ s.left && s.left ≺ f1) (Wholes s) Nothing
+-- a split, if what is left lies between 0 and 1
+abbrev pub if_between : Split → Option Split
+if_between s = cond (f0 ≺ s.left && s.left ≺ f1) (Some s) None
 
 -- x split, where it lies between two neighbouring whole numbers and is none itself
-abbrev pub split_between : Float → Between
+abbrev pub split_between : Float → Option Split
 split_between x = if_between (split_whole x)

@@ -1,5 +1,4 @@
-// The whole part of a binary64 value: floor, ceiling and `as u32`, worked out from bit patterns. No function asks
-// anything of its caller.
+// The whole part of a binary64 value: floor, ceiling and `as u32`. No public function asks anything of its caller.
 #![tactic(auto)]
 
 ghost use Rattle.std.specs.Prelude.{◌≡◌, true};
@@ -14,37 +13,20 @@ pub struct Split {
     pub left: f64,
 }
 
-// Where a value lies: between two neighbouring whole numbers, and then how it is split, or elsewhere.
-#[derive(Clone, Copy)]
-pub enum Between {
-    Wholes(Split),
-    Nothing,
-}
-
 // The largest whole number that is at most x.
+#[tactic(auto, using(crate::proofs::Whole::floor_is))]
 pub fn floor(x: f64) -> f64
     ensures { result ≡ floor_of x }
 {
-    let a = ieee::abs(x);
-    if a < 9007199254740992.0 {
-        let n = std::num::truncating_f64_to_u64(a);
-        let w = n as f64;
-        if w == a {
-            return x;
-        }
-        if x < 0.0 {
-            return -((n + 1) as f64);
-        }
-        return w;
-    }
-    x
+    x.floor()
 }
 
 // The smallest whole number that is at least x.
+#[tactic(auto, using(crate::proofs::Whole::ceil_is))]
 pub fn ceil(x: f64) -> f64
     ensures { result ≡ ceil_of x }
 {
-    -floor(-x)
+    x.ceil()
 }
 
 // A first guess at x without its fraction, right in most runs but not by proof: `whole_part` tests it. The sum has no
@@ -55,7 +37,8 @@ fn whole_guess(x: f64) -> u32
     (f64::to_bits(x + 4503599627370495.5) & 0xffff_ffff) as u32
 }
 
-// x without its fraction, by the digits of its bit pattern.
+// x without its fraction, by the digits of its bit pattern. `std::num::saturating_f64_to_u32` in its place
+// made `whole_part` a tenth slower where the guess fails.
 fn whole_digits(x: f64) -> u32
     requires { (f0 ≼ x) ≡ true }
     ensures { result ≡ to_unsigned 32 x }
@@ -67,20 +50,14 @@ fn whole_digits(x: f64) -> u32
 }
 
 // x's whole part and what is left of x, by the digits.
+#[tactic(auto, using(crate::proofs::Trimmed::nothing))]
 fn split_digits(x: f64) -> Split
     ensures { result ≡ split_whole x }
 {
-    if x >= 0.0 {
-        let whole = whole_digits(x);
-        return Split {
-            whole,
-            left: x - whole as f64,
-        };
-    }
-    let none: u32 = 0;
+    let whole: u32 = if x >= 0.0 { whole_digits(x) } else { 0 };
     Split {
-        whole: none,
-        left: x - none as f64,
+        whole,
+        left: x - whole as f64,
     }
 }
 
@@ -91,37 +68,34 @@ pub fn split_whole(x: f64) -> Split
     if x >= 0.0 {
         let guess = whole_guess(x);
         let left = x - guess as f64;
-        if guess as f64 <= x {
-            if left < 1.0 {
-                return Split { whole: guess, left };
-            }
+        if guess as f64 <= x && left < 1.0 {
+            return Split { whole: guess, left };
         }
     }
     split_digits(x)
 }
 
-// The split where what is left lies between 0 and 1, and else nothing.
-fn if_between(split: Split) -> Between
+// The split, where what is left lies between 0 and 1.
+fn if_between(split: Split) -> Option<Split>
     ensures { result ≡ if_between split }
 {
-    if split.left > 0.0 {
-        if split.left < 1.0 {
-            return Between::Wholes(split);
-        }
+    if split.left > 0.0 && split.left < 1.0 {
+        Some(split)
+    } else {
+        None
     }
-    Between::Nothing
 }
 
 // x split where it lies between two whole numbers. Only what lies between 0 and 1 has a square below
 // it, so that one test of what is left tells both that it does and that the guess was right.
-pub fn split_between(x: f64) -> Between
+pub fn split_between(x: f64) -> Option<Split>
     ensures { result ≡ split_between x }
 {
     if x >= 0.0 {
         let guess = whole_guess(x);
         let left = x - guess as f64;
         if left * left < left {
-            return Between::Wholes(Split { whole: guess, left });
+            return Some(Split { whole: guess, left });
         }
     }
     if_between(split_digits(x))

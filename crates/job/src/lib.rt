@@ -2,6 +2,7 @@
 #![tactic(auto)]
 
 ghost use Rattle.std.specs.Prelude.{◌≡◌, ◌<◌, drop};
+ghost use Rattle.request.specs.Requests.{photograph as lent};
 ghost use Rattle.job.specs.Job.{
   working_at,
   intrinsics_at,
@@ -12,23 +13,22 @@ ghost use Rattle.job.specs.Job.{
   request_of,
   stride_of,
   modules_of,
+  photograph_of,
 };
 
 use camera::{CameraCalibration, CameraIntrinsics, LensDistortion};
 use fields::{byte_at, float_at, number_at};
 use footprint::View;
 use job_card::{has_exactly, part};
+use photograph::Photograph;
 use pixel::WorkingPixel;
 use request::Request;
 
 // What is behind the first byte of a slice; of an empty one nothing.
-fn behind_first<'a>(s: &'a [u8]) -> &'a [u8]
+fn behind_first(s: &[u8]) -> &[u8]
     ensures { result.now ≡ drop 1 s.now }
 {
-    if s.len() < 1 {
-        return s;
-    }
-    &s[1..]
+    s.get(1..).unwrap_or(&[])
 }
 
 // The corner whose x and y stand from i on, a place far below where `i + 8` would wrap.
@@ -68,15 +68,16 @@ fn intrinsics_at(s: &[u8], i: usize) -> CameraIntrinsics
 fn lens_of(s: &[u8]) -> LensDistortion
     ensures { result ≡ lens_of s.now }
 {
-    if byte_at(s, 0) != 1 {
-        return LensDistortion::None;
-    }
-    LensDistortion::BrownConrady {
-        k1: float_at(s, 1),
-        k2: float_at(s, 9),
-        p1: float_at(s, 17),
-        p2: float_at(s, 25),
-        k3: float_at(s, 33),
+    if byte_at(s, 0) == 1 {
+        LensDistortion::BrownConrady {
+            k1: float_at(s, 1),
+            k2: float_at(s, 9),
+            p1: float_at(s, 17),
+            p2: float_at(s, 25),
+            k3: float_at(s, 33),
+        }
+    } else {
+        LensDistortion::None
     }
 }
 
@@ -84,16 +85,16 @@ fn lens_of(s: &[u8]) -> LensDistortion
 fn view_of(card: &[u8]) -> View
     ensures { result ≡ view_of card.now }
 {
-    if !has_exactly(card, 8) {
-        return View::Plain;
+    if has_exactly(card, 8) {
+        let pair = part(card, 7);
+        Some(CameraCalibration {
+            intrinsics: intrinsics_at(pair, 0),
+            rectified: intrinsics_at(pair, 32),
+            distortion: lens_of(part(card, 8)),
+        })
+    } else {
+        None
     }
-    let pair = part(card, 7);
-    let lens = part(card, 8);
-    View::Calibrated(CameraCalibration {
-        intrinsics: intrinsics_at(pair, 0),
-        rectified: intrinsics_at(pair, 32),
-        distortion: lens_of(lens),
-    })
 }
 
 // The request of the contents of the fields 1 and 3 to 6, with a view.
@@ -142,8 +143,18 @@ pub fn stride_of(card: &[u8]) -> u32
     number_at(part(card, 1), 4, 2) as u32
 }
 
+// The photograph of a well formed card.
+pub fn photograph_of(card: &[u8]) -> Photograph<'_>
+    ensures { lent result.bytes.now result.stride ≡ photograph_of card.now }
+{
+    Photograph {
+        bytes: part(card, 2),
+        stride: stride_of(card),
+    }
+}
+
 // The modules of a well formed card, one byte each.
-pub fn modules_of<'a>(card: &'a [u8]) -> &'a [u8]
+pub fn modules_of(card: &[u8]) -> &[u8]
     ensures { result.now ≡ modules_of card.now }
 {
     behind_first(part(card, 3))

@@ -8,12 +8,12 @@ use native.Mathlib.Omega.{arith}
 use borrow.Author.Tests.{le-leb, lt-leb, eq-eqb, ne_eqb, leb-true}
 use lib.Dec.{leb, eqb}
 use lib.ListN.{length, take, drop}
+use Rattle.std.specs.Bool.{then_some}
+use Rattle.std.specs.Prelude.{Option, Some, None}
 use Rattle.prelude.proofs.Tests.{both}
 use Rattle.prelude.specs.Prelude.{when◌then◌else◌}
 use Rattle.fields.specs.Fields.{byte_at}
 use Rattle.job_card.specs.JobCard.{size_at, start_at, start_of, contents, suits, has_field, has_fields}
-use Rattle.job_card.specs.declared.FieldEnd.{FieldEnd}
-use Rattle.job_card.specs.declared.FieldEnd.TheVariants.{At, Nowhere}
 
 -- ---- the tests on field t, whose header stands at i
 
@@ -25,28 +25,29 @@ next_start card t some =
 
 module _ (card : List ℕ) (t i : ℕ) (here : i ≡ start_of card t) where
   pub no_header : length card < i + 3 → has_field card t ≡ false
-  unfolding has_field
   no_header short = rw (← here, lt-leb (i + 3) (length card) short)
 
   module _ (header : i + 3 ≤ length card) where
     pub other_tag : (byte_at card i ≡ t → ⊥) → has_field card t ≡ false
-    unfolding has_field
     other_tag other = rw (← here, le-leb _ _ header, ne_eqb _ _ other)
 
     module _ (tag : byte_at card i ≡ t) where
       module _ (size : ℕ) (told : size ≡ size_at card i) where
         pub past_end : length card < i + 3 + size → has_field card t ≡ false
-        unfolding has_field
         past_end past = rw (← here, le-leb _ _ header, eq-eqb _ _ tag, ← told, lt-leb _ _ past)
 
         pub decided : i + 3 + size ≤ length card → (b : Bool) → b ≡ suits t (take (i + 3 + size - (i + 3)) (drop (i + 3) card)) → has_field card t ≡ b
-        unfolding has_field contents
         decided inside b e =
             let all : i + 3 + size - (i + 3) ≡ size = omega arith in
             rw (← here, le-leb _ _ header, eq-eqb _ _ tag, ← told, le-leb _ _ inside) (sym (rw all at e))
 
         pub ends_here : 1 ≤ t → start_at card t ≡ i + 3 + size
         ends_here some = rw (next_start card t some, ← here, ← told)
+
+-- a place that a test lets through
+pub then_some-when : (b : Bool) (x : ℕ) → then_some b x ≡ (when b then Some x else None)
+then_some-when true x = refl
+then_some-when false x = refl
 
 -- ---- rows of fields
 
@@ -86,7 +87,6 @@ third : (a b c d : Bool) → (a && b && c && d) ≡ true → c ≡ true
 third a b c d e = (both (a && b) c (both (a && b && c) d e).0).1
 
 pub within_card : (card : List ℕ) (t : ℕ) → 1 ≤ t → has_field card t ≡ true → start_at card t ≤ length card
-unfolding has_field
 within_card card t some there =
     let i = start_of card t in
     let inside = leb-true _ _ (third (leb (i + 3) (length card)) (eqb (byte_at card i) t) (leb (i + 3 + size_at card i) (length card)) (suits t (contents card t)) there) in
@@ -100,14 +100,14 @@ row_within card (suc k) all = within_card card (suc k) (omega arith) (has_field_
 -- ---- the walk
 
 -- where a field or a row of fields ends, if it is there
-abbrev pub end_if : Bool → ℕ → FieldEnd
-end_if there end = when there then At end else Nowhere
+abbrev pub end_if : Bool → ℕ → Option ℕ
+end_if there end = when there then Some end else None
 
-pub ended : (there : Bool) (x y : ℕ) → At x ≡ end_if there y → (there ≡ true) × (x ≡ y)
+pub ended : (there : Bool) (x y : ℕ) → Some x ≡ end_if there y → (there ≡ true) × (x ≡ y)
 ended true x y e = (refl, cc)
 ended false x y e = (cc, cc)
 
-pub nowhere : (there : Bool) (y : ℕ) → Nowhere ≡ end_if there y → there ≡ false
+pub nowhere : (there : Bool) (y : ℕ) → None ≡ end_if there y → there ≡ false
 nowhere true y e = cc
 nowhere false y e = refl
 
@@ -121,7 +121,7 @@ pub walked_none : (card : List ℕ) → Walked card 0 0
 unfolding has_fields start_at
 walked_none card = record { fields = refl; start = refl; within = omega arith }
 
-pub walked_more : (card : List ℕ) (t i end : ℕ) → 1 ≤ t → Walked card (t - 1) i → At end ≡ end_if (has_field card t) (start_at card t) → Walked card t end
+pub walked_more : (card : List ℕ) (t i end : ℕ) → 1 ≤ t → Walked card (t - 1) i → Some end ≡ end_if (has_field card t) (start_at card t) → Walked card t end
 walked_more card t i end some w e =
     let there = ended (has_field card t) end (start_at card t) e in
     record { fields = rw (row card t some, w.fields, there.0); start = there.1; within = rw there.1 (within_card card t some there.0) }
@@ -133,7 +133,7 @@ next {card} {k} {i} w =
     subst (λ (n : ℕ). Walked card n i) same w
 
 -- what a row that was walked says
-pub walked : (card : List ℕ) (k i : ℕ) → At i ≡ end_if (has_fields card k) (start_at card k) → Walked card k i
+pub walked : (card : List ℕ) (k i : ℕ) → Some i ≡ end_if (has_fields card k) (start_at card k) → Walked card k i
 walked card k i e =
     let there = ended (has_fields card k) i (start_at card k) e in
     record { fields = there.0; start = there.1; within = rw there.1 (row_within card k there.0) }
@@ -146,8 +146,7 @@ pub record Reached (card : List ℕ) (t i end : ℕ) : Type 0 where
   pub inside : end ≤ length card
   pub is : take (end - (i + 3)) (drop (i + 3) card) ≡ contents card t
 
-pub reached : (card : List ℕ) (t i end : ℕ) → 1 ≤ t → Walked card (t - 1) i → At end ≡ end_if (has_field card t) (start_at card t) → Reached card t i end
-unfolding contents
+pub reached : (card : List ℕ) (t i end : ℕ) → 1 ≤ t → Walked card (t - 1) i → Some end ≡ end_if (has_field card t) (start_at card t) → Reached card t i end
 reached card t i end some w e =
     let there = ended (has_field card t) end (start_at card t) e in
     let at : end ≡ i + 3 + size_at card i = rw (there.1, next_start card t some, ← w.start) in

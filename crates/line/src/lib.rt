@@ -4,6 +4,7 @@
 ghost use Rattle.std.specs.Prelude.{◌≡◌};
 ghost use Rattle.line.specs.Line.{crossing, cross_answer};
 
+use number::Refusal;
 use pixel::{Direction, SourcePixel};
 
 // Directions whose cross product is smaller are parallel: their angle is under 1e-9.
@@ -16,52 +17,26 @@ pub struct Line2 {
     pub dir: Direction,
 }
 
-// Where two lines cross, if they do.
-#[derive(Clone, Copy)]
-pub enum Crossing {
-    At(SourcePixel),
-    Parallel,
-}
-
-// What the crossing returns: a number of document 01, and the place or zeros.
-#[derive(Clone, Copy)]
-pub struct CrossAnswer {
-    pub number: u32,
-    pub place: SourcePixel,
-}
-
-// Where two lines cross, as a place on the first: along the second it would have other bits.
-pub fn cross_lines(a: Line2, b: Line2) -> Crossing
+// Where two lines cross, if they do, as a place on the first: along the second it would have other bits.
+pub fn cross_lines(a: Line2, b: Line2) -> Option<SourcePixel>
     ensures { result ≡ crossing a b }
 {
     let cross = a.dir.x * b.dir.y - a.dir.y * b.dir.x;
-    if !ieee::is_finite(cross) {
-        return Crossing::Parallel;
-    }
-    if ieee::abs(cross) < PARALLEL_CROSS {
-        return Crossing::Parallel;
+    if !ieee::is_finite(cross) || ieee::abs(cross) < PARALLEL_CROSS {
+        return None;
     }
     let dx = b.centroid.0 - a.centroid.0;
     let dy = b.centroid.1 - a.centroid.1;
     let distance = (dx * b.dir.y - dy * b.dir.x) / cross;
-    Crossing::At(SourcePixel(
+    Some(SourcePixel(
         a.centroid.0 + distance * a.dir.x,
         a.centroid.1 + distance * a.dir.y,
     ))
 }
 
-// The crossing by itself: number 0 and the place, or 18 and zeros.
-pub fn intersect_lines(a: Line2, b: Line2) -> CrossAnswer
+// The crossing by itself.
+pub fn intersect_lines(a: Line2, b: Line2) -> Result<SourcePixel, Refusal>
     ensures { result ≡ cross_answer (crossing a b) }
 {
-    match cross_lines(a, b) {
-        Crossing::At(place) => CrossAnswer {
-            number: number::ANSWER,
-            place,
-        },
-        Crossing::Parallel => CrossAnswer {
-            number: number::PARALLEL,
-            place: SourcePixel(0.0, 0.0),
-        },
-    }
+    cross_lines(a, b).ok_or(Refusal::Parallel)
 }

@@ -1,2 +1,2 @@
--- The laws that the proofs of `line_fit` cite, and those that the crates above do.
+-- The law that says what a line says of its points.
 pub mod Laws

@@ -10,8 +10,10 @@ use mathlib.Core.List.{List, ◌++◌}
 use lib.Dec.{T}
 use lib.ListN.{length, get_or, take, drop}
 use lib.Seq.{get_or-take, take_at, drop_at}
+use Rattle.std.specs.Prelude.{Result, Ok, is_ok}
+use Rattle.std.specs.Result.{result_and}
 use Rattle.prelude.specs.Prelude.{when◌then◌else◌, bit}
-use Rattle.number.specs.Numbers as number
+use Rattle.number.specs.declared.Refusal.{Refusal}
 use Rattle.photograph.specs.Photographs.{Photo, pixel}
 use Rattle.pixel.proofs.Places.{place-lt}
 use Rattle.photograph.proofs.Pixels.{Inside}
@@ -22,12 +24,12 @@ use Rattle.sample_tree.proofs.Inside.{reads-inside}
 use lib.Ieee.Bits.{is_true}
 use Rattle.sample_tree.proofs.Sheets.{each_read, sheet-at, copy_at, length-sheet, length-copy}
 use Rattle.sample_tree.proofs.Demand3 as one_sample
-use Rattle.corners.specs.declared.Answer.{Answer}
+use Rattle.corners.specs.Corners.{Answer}
 use Rattle.rounds.specs.Rounds.{rounds}
 use Rattle.request.specs.declared.Request.{Request}
 use Rattle.request.specs.Requests.{Photograph, source_corners, scene_of, shown, entry}
 use Rattle.refine.specs.Refine.{plan_of, refinement, result, reads_of}
-use Rattle.marking.specs.Marking.{area, marking_entry, marking_number, refine_marking, sheet_after, copy_after}
+use Rattle.marking.specs.Marking.{area, marking_entry, refine_marking, sheet_after, copy_after}
 use Rattle.marking.specs.Demand3.{Call, reads_in, at, SameMarks, AgreesWhereMarked, OverTheCopy, Demand3}
 use Rattle.request.proofs.Checks.{photograph-passes, other_photograph}
 use Rattle.marking.proofs.Entered.{entered, enters_marking}
@@ -62,18 +64,18 @@ module _ (r : Request) (grid : List ℕ) where
 
   -- it returns what its run ends in
   pub returned : (a : Call r grid) → a.answer ≡ result r a.modules a.photograph
-  unfolding refine_marking marking_number
-  returned a = rw a.passes at a.ended.answer
+  unfolding refine_marking
+  returned a = a.ended.answer ∙ ap (λ (z : Result (Unit {0}) Refusal). result_and z (result r a.modules a.photograph)) a.passes
 
   -- it leaves the run's sheet in front of what it was lent past width × height
   sheet-left : (a : Call r grid) → a.sheet' ≡ sheet_of a ++ drop (area r) a.sheet
-  unfolding sheet_after marking_number
-  sheet-left a = rw a.passes at a.ended.sheet
+  unfolding sheet_after
+  sheet-left a = a.ended.sheet ∙ ap (λ (z : Result (Unit {0}) Refusal). when is_ok z then sheet_of a ++ drop (area r) a.sheet else a.sheet) a.passes
 
   -- and so the run's copy
   copy-left : (a : Call r grid) → a.copy' ≡ copy_of a ++ drop (area r) a.copy
-  unfolding copy_after marking_number
-  copy-left a = rw a.passes at a.ended.copy
+  unfolding copy_after
+  copy-left a = a.ended.copy ∙ ap (λ (z : Result (Unit {0}) Refusal). when is_ok z then copy_of a ++ drop (area r) a.copy else a.copy) a.passes
 
   -- the first width × height bytes of both
   sheet-front : (a : Call r grid) → take (area r) a.sheet' ≡ sheet_of a
@@ -112,7 +114,7 @@ module _ (r : Request) (grid : List ℕ) where
   -- ---- a call has passed the entry checks
 
   -- those of the refinement call among them
-  enters : (a : Call r grid) → entry r a.modules a.photograph ≡ number.answer
+  enters : (a : Call r grid) → entry r a.modules a.photograph ≡ Ok tt
   enters a = (entered r a.modules a.photograph (length a.sheet) (length a.copy) a.passes).0
 
   -- so its size is within the limits
@@ -185,7 +187,7 @@ module _ (r : Request) (grid : List ℕ) where
 
   -- rows of width bytes pass the entry checks where another photograph does
   copy-passes : (a : Call r grid) (q : Photograph) (s c : ℕ) → q.stride ≡ r.width → area r ≤ length q.bytes
-      → area r ≤ s → area r ≤ c → marking_entry r a.modules q s c ≡ number.answer
+      → area r ≤ s → area r ≤ c → marking_entry r a.modules q s c ≡ Ok tt
   copy-passes a q s c stride long =
       enters_marking r a.modules q s c (other_photograph r a.modules a.photograph (enters a) q (rw stride (good_rows r.width r.height (length q.bytes) (size a) long)))
 

@@ -1,51 +1,43 @@
 -- The entry checks of a marking call: the seventh comes behind those of the refinement call, and which calls pass all. Assumes nothing.
-use mathlib.Core.Path.{◌≡◌, refl, sym, ◌∙◌}
+use mathlib.Core.Path.{◌≡◌, ◌∙◌}
+use mathlib.Core.Logic.{◌⊎◌, inl, inr}
 use Prim.Native.Nat.{ℕ, ◌≤◌, ◌<◌}
 use mathlib.Core.Bool.{true, ◌&&◌}
-use mathlib.Core.List.{List, [], ◌∷◌}
-use lib.Dec.{leb, eqb}
-use borrow.Author.Tests.{leb-true, le-leb, lt-leb, ne_eqb}
-use Rattle.prelude.proofs.Checks.{behind, zero_exactly, all_zero}
-use Rattle.prelude.specs.Checks.{check}
+use lib.Dec.{leb}
+use borrow.Author.Tests.{leb-true, le-leb, lt-leb}
+use Rattle.std.specs.Prelude.{List, [], ◌∷◌, Ok, Err}
+use Rattle.number.specs.declared.Refusal.{Refusal}
+use Rattle.number.specs.declared.Refusal.TheVariants as refusal
+use Rattle.prelude.proofs.Checks.{ok_exactly, refused_before as refused_first, passed_before, all_ok}
+use Rattle.prelude.specs.Checks.{check, first}
 use Rattle.prelude.proofs.Tests.{both}
-use Rattle.prelude.specs.Prelude.{when◌then◌else◌}
-use Rattle.number.specs.Numbers as number
 use Rattle.request.specs.declared.Request.{Request}
 use Rattle.request.specs.Requests.{Photograph, entry_checks, entry}
 use Rattle.marking.specs.Marking.{area, marking_entry}
 
--- ---- check 7
-
 module _ (r : Request) (ms : List ℕ) (p : Photograph) (s c : ℕ) where
-  -- it comes behind the others
-  pub marking-entry : marking_entry r ms p s c
-      ≡ (when eqb (entry r ms p) number.answer then when leb (area r) s && leb (area r) c then number.answer else number.sheet else entry r ms p)
-  unfolding marking_entry entry
-  marking-entry = behind (entry_checks r ms p) (check number.sheet (leb (area r) s && leb (area r) c) ∷ []) refl
-
   -- a call that passes all passes those of the refinement call, and its sheet and copy are long enough
-  pub entered : marking_entry r ms p s c ≡ number.answer → (entry r ms p ≡ number.answer) × (area r ≤ s) × (area r ≤ c)
-  unfolding marking_entry entry
+  pub entered : marking_entry r ms p s c ≡ Ok tt → (entry r ms p ≡ Ok tt) × (area r ≤ s) × (area r ≤ c)
   entered h =
-      let sheets = check number.sheet (leb (area r) s && leb (area r) c) ∷ [] in
-      let all = all_zero (entry_checks r ms p) sheets refl h in
-      let passes = (both (leb (area r) s && leb (area r) c) true ((zero_exactly sheets refl).0 all.1)).0 in
+      let sheets = check refusal.Sheet (leb (area r) s && leb (area r) c) ∷ [] in
+      let all = all_ok (entry_checks r ms p) sheets h in
+      let passes = (both (leb (area r) s && leb (area r) c) true ((ok_exactly sheets).0 all.1)).0 in
       let seven = both (leb (area r) s) (leb (area r) c) passes in
       (all.0, leb-true (area r) s seven.0, leb-true (area r) c seven.1)
 
+  -- behind the first six the seventh decides
+  pub marking-entry : entry r ms p ≡ Ok tt → marking_entry r ms p s c ≡ first (check refusal.Sheet (leb (area r) s && leb (area r) c) ∷ [])
+  marking-entry h = passed_before (entry_checks r ms p) (check refusal.Sheet (leb (area r) s && leb (area r) c) ∷ []) h
+
   -- and such a call passes all
-  pub enters_marking : entry r ms p ≡ number.answer → area r ≤ s → area r ≤ c → marking_entry r ms p s c ≡ number.answer
-  enters_marking h hs hc = marking-entry ∙ rw (h, le-leb (area r) s hs, le-leb (area r) c hc)
+  pub enters_marking : entry r ms p ≡ Ok tt → area r ≤ s → area r ≤ c → marking_entry r ms p s c ≡ Ok tt
+  enters_marking h hs hc = marking-entry h ∙ rw (le-leb (area r) s hs, le-leb (area r) c hc)
 
-  -- ---- the number, as the code comes to it
+  -- refused by one of the first six
+  pub refused_before : {e : Refusal} → entry r ms p ≡ Err e → marking_entry r ms p s c ≡ Err e
+  refused_before h = refused_first (entry_checks r ms p) (check refusal.Sheet (leb (area r) s && leb (area r) c) ∷ []) _ h
 
-  -- that of one of the first six
-  pub refused_before : {n : ℕ} → n ≡ entry r ms p → (n ≡ number.answer → ⊥) → n ≡ marking_entry r ms p s c
-  refused_before is other = is ∙ sym (marking-entry ∙ rw (ne_eqb (entry r ms p) number.answer (λ z. other (is ∙ z))))
-
-  -- that of the seventh, by the sheet or by the copy
-  pub short_sheet : entry r ms p ≡ number.answer → s < area r → number.sheet ≡ marking_entry r ms p s c
-  short_sheet h short = sym (marking-entry ∙ rw (h, lt-leb (area r) s short))
-
-  pub short_copy : entry r ms p ≡ number.answer → area r ≤ s → c < area r → number.sheet ≡ marking_entry r ms p s c
-  short_copy h long short = sym (marking-entry ∙ rw (h, le-leb (area r) s long, lt-leb (area r) c short))
+  -- refused by the seventh, for the sheet or for the copy
+  pub short : entry r ms p ≡ Ok tt → (s < area r) ⊎ ((area r ≤ s) × (c < area r)) → marking_entry r ms p s c ≡ Err refusal.Sheet
+  short h (inl sheet) = marking-entry h ∙ rw (lt-leb (area r) s sheet)
+  short h (inr both) = marking-entry h ∙ rw (le-leb (area r) s both.0, lt-leb (area r) c both.1)

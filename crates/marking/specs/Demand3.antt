@@ -2,12 +2,11 @@
 -- sheets and copies that they were lent. Definitions only, to be believed: `demand_3` in
 -- proofs/Demand3 proves it of every request, so with and without a camera, refused behind the entry
 -- checks or not.
-use Rattle.std.specs.Prelude.{◌≡◌, ◌↔◌, ℕ, ◌+◌, ◌*◌, ◌≤◌, ◌<◌, true, List, length, get_or, take, drop}
+use Rattle.std.specs.Prelude.{◌≡◌, ◌↔◌, ℕ, ◌+◌, ◌*◌, ◌≤◌, ◌<◌, true, List, length, get_or, take, drop, Ok}
 use Rattle.prelude.specs.Prelude.{when◌then◌else◌, bit}
-use Rattle.number.specs.Numbers as number
 use Rattle.photograph.specs.Photographs.{Pixel}
 use Rattle.sample_tree.specs.Sheets.{is_read}
-use Rattle.corners.specs.declared.Answer.{Answer}
+use Rattle.corners.specs.Corners.{Answer}
 use Rattle.request.specs.declared.Request.{Request}
 use Rattle.request.specs.Requests.{Photograph, cells, shown}
 use Rattle.refine.specs.Refine.{reads_of}
@@ -27,7 +26,7 @@ module _ (r : Request) (grid : List ℕ) where
     pub copy' : List ℕ
     pub same_grid : take (cells r) modules ≡ grid
     pub ended : Marks r modules photograph answer sheet sheet' copy copy'
-    pub passes : marking_entry r modules photograph (length sheet) (length copy) ≡ number.answer
+    pub passes : marking_entry r modules photograph (length sheet) (length copy) ≡ Ok tt
 
   -- the pixels that the definition lists as read
   abbrev pub reads_in : Call → List Pixel
@@ -61,11 +60,11 @@ module _ (r : Request) (grid : List ℕ) where
     pub copy_untouched : (a : Call) → drop (area r) a.copy' ≡ drop (area r) a.copy
     -- 2. sheets and copies are both equal exactly when the second photograph has the first one's value at every pixel marked for the first
     pub exactly_when : (a b : Call) → SameMarks a b ↔ AgreesWhereMarked a b
-    -- 3. then both return the same: number, corners, edge counts and flags
+    -- 3. then both return the same: the refusal, or corners, edge counts and flags
     pub then_same : (a b : Call) → SameMarks a b → b.answer ≡ a.answer
     -- 4. a call over the blanked copy returns the same, and leaves the same sheet and copy again
     pub copy_returns : (a b : Call) → OverTheCopy a b → b.answer ≡ a.answer
     pub copy_again : (a b : Call) → OverTheCopy a b → SameMarks a b
     -- and the blanked copy passes the entry checks, with a sheet and a copy that are long enough
     pub copy-passes : (a : Call) (q : Photograph) (s c : ℕ) → q.stride ≡ r.width → area r ≤ length q.bytes → area r ≤ s → area r ≤ c
-        → marking_entry r a.modules q s c ≡ number.answer
+        → marking_entry r a.modules q s c ≡ Ok tt

@@ -1,86 +1,54 @@
--- The numbers of document 01, each under its word there. Definitions only, to be believed.
-use Rattle.std.specs.Prelude.{ℕ}
+-- The refusals of document 01, each with its number there. Definitions only, to be believed.
+use Rattle.std.specs.Prelude.{ℕ, Result, Ok, Err}
+use Rattle.number.specs.declared.Refusal.{Refusal}
+use Rattle.number.specs.declared.Refusal.TheVariants.{Size, Photograph, Grid, Scale, Corner, Lens, Sheet, Quad, Thin, Line, Overflow, Card, Points, Pairing, Finite, Weight, Outside, Parallel, Profile, Place}
 
--- an answer
 abbrev pub answer : ℕ
 answer = 0
 
+abbrev pub number : Refusal → ℕ
 -- width or height outside its limits
-abbrev pub size : ℕ
-size = 1
-
+number Size = 1
 -- the stride is wrong, or the bytes are too few
-abbrev pub photograph : ℕ
-photograph = 2
-
+number Photograph = 2
 -- the dimension is wrong, the modules are too few, or one is neither 0 nor 1
-abbrev pub grid : ℕ
-grid = 3
-
+number Grid = 3
 -- a scale is not finite or not above 0
-abbrev pub scale : ℕ
-scale = 4
-
+number Scale = 4
 -- a corner is not finite, or lies beyond 2 to the 20 after the division
-abbrev pub corner : ℕ
-corner = 5
-
+number Corner = 5
 -- a camera number is not finite, or a focal length is not above 0
-abbrev pub lens : ℕ
-lens = 6
-
+number Lens = 6
 -- sheet or copy is shorter than width times height
-abbrev pub sheet : ℕ
-sheet = 7
-
+number Sheet = 7
 -- four corners have no map
-abbrev pub quad : ℕ
-quad = 8
-
+number Quad = 8
 -- fewer than two valid edges in the first round
-abbrev pub thin : ℕ
-thin = 9
-
+number Thin = 9
 -- the points of a line do not spread
-abbrev pub line : ℕ
-line = 10
-
+number Line = 10
 -- centroid, direction or a residual is not finite
-abbrev pub overflow : ℕ
-overflow = 11
-
+number Overflow = 11
 -- a card is malformed, or its output buffer is too short
-abbrev pub card : ℕ
-card = 12
-
+number Card = 12
 -- fewer than 2 points
-abbrev pub points : ℕ
-points = 13
-
+number Points = 13
 -- points and weights differ in number
-abbrev pub pairing : ℕ
-pairing = 14
-
+number Pairing = 14
 -- a point or a weight is not finite
-abbrev pub finite : ℕ
-finite = 15
-
+number Finite = 15
 -- the sum of the weights is not above 0, or a weight is negative
-abbrev pub weight : ℕ
-weight = 16
-
+number Weight = 16
 -- there is no sample
-abbrev pub outside : ℕ
-outside = 17
-
+number Outside = 17
 -- two lines are parallel
-abbrev pub parallel : ℕ
-parallel = 18
-
+number Parallel = 18
 -- a profile has no edge point
-abbrev pub profile : ℕ
-profile = 19
-
+number Profile = 19
 -- there is no source position
-abbrev pub place : ℕ
-place = 20
+number Place = 20
+
+-- what a call returns has a number: 0 where it is an answer, and else that of its refusal
+abbrev pub number_of : {A : Type 0} → Result A Refusal → ℕ
+number_of (Ok a) = answer
+number_of (Err refusal) = number refusal

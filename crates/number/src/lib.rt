@@ -1,65 +1,93 @@
-// What a refusal says: the numbers of document 01, each under its word there.
+// Why a call is refused: the refusals of document 01, each with its number there.
 #![tactic(auto)]
 
-// An answer.
+ghost use Rattle.std.specs.Prelude.{◌≡◌};
+ghost use Rattle.number.specs.Numbers.{number, number_of};
+
+// The number of an answer, for C: no refusal has it, so it is in no enum.
 pub const ANSWER: u32 = 0;
 
-// Width or height outside its limits.
-pub const SIZE: u32 = 1;
+// Why there is no answer.
+#[derive(Clone, Copy, Debug, PartialEq, Eq)]
+pub enum Refusal {
+    // Width or height outside its limits.
+    Size,
+    // The stride is wrong, or the bytes are too few.
+    Photograph,
+    // The dimension is wrong, the modules are too few, or one is neither 0 nor 1.
+    Grid,
+    // A scale is not finite or not above 0.
+    Scale,
+    // A corner is not finite, or lies beyond 2 to the 20 after the division.
+    Corner,
+    // A camera number is not finite, or a focal length is not above 0.
+    Lens,
+    // Sheet or copy is shorter than width times height.
+    Sheet,
+    // Four corners have no map.
+    Quad,
+    // Fewer than two valid edges in the first round.
+    Thin,
+    // The points of a line do not spread.
+    Line,
+    // Centroid, direction or a residual is not finite.
+    Overflow,
+    // A card is malformed, or its output buffer is too short.
+    Card,
+    // Fewer than 2 points.
+    Points,
+    // Points and weights differ in number.
+    Pairing,
+    // A point or a weight is not finite.
+    Finite,
+    // The sum of the weights is not above 0, or a weight is negative.
+    Weight,
+    // There is no sample.
+    Outside,
+    // Two lines are parallel.
+    Parallel,
+    // A profile has no edge point.
+    Profile,
+    // There is no source position.
+    Place,
+}
 
-// The stride is wrong, or the bytes are too few.
-pub const PHOTOGRAPH: u32 = 2;
+// The number of a refusal.
+impl From<Refusal> for u32 {
+    ghost from_gives = { λ refusal n. n ≡ number refusal };
 
-// The dimension is wrong, the modules are too few, or one is neither 0 nor 1.
-pub const GRID: u32 = 3;
+    fn from(refusal: Refusal) -> u32 {
+        match refusal {
+            Refusal::Size => 1,
+            Refusal::Photograph => 2,
+            Refusal::Grid => 3,
+            Refusal::Scale => 4,
+            Refusal::Corner => 5,
+            Refusal::Lens => 6,
+            Refusal::Sheet => 7,
+            Refusal::Quad => 8,
+            Refusal::Thin => 9,
+            Refusal::Line => 10,
+            Refusal::Overflow => 11,
+            Refusal::Card => 12,
+            Refusal::Points => 13,
+            Refusal::Pairing => 14,
+            Refusal::Finite => 15,
+            Refusal::Weight => 16,
+            Refusal::Outside => 17,
+            Refusal::Parallel => 18,
+            Refusal::Profile => 19,
+            Refusal::Place => 20,
+        }
+    }
+}
 
-// A scale is not finite or not above 0.
-pub const SCALE: u32 = 4;
-
-// A corner is not finite, or lies beyond 2 to the 20 after the division.
-pub const CORNER: u32 = 5;
-
-// A camera number is not finite, or a focal length is not above 0.
-pub const LENS: u32 = 6;
-
-// Sheet or copy is shorter than width times height.
-pub const SHEET: u32 = 7;
-
-// Four corners have no map.
-pub const QUAD: u32 = 8;
-
-// Fewer than two valid edges in the first round.
-pub const THIN: u32 = 9;
-
-// The points of a line do not spread.
-pub const LINE: u32 = 10;
-
-// Centroid, direction or a residual is not finite.
-pub const OVERFLOW: u32 = 11;
-
-// A card is malformed, or its output buffer is too short.
-pub const CARD: u32 = 12;
-
-// Fewer than 2 points.
-pub const POINTS: u32 = 13;
-
-// Points and weights differ in number.
-pub const PAIRING: u32 = 14;
-
-// A point or a weight is not finite.
-pub const FINITE: u32 = 15;
-
-// The sum of the weights is not above 0, or a weight is negative.
-pub const WEIGHT: u32 = 16;
-
-// There is no sample.
-pub const OUTSIDE: u32 = 17;
-
-// Two lines are parallel.
-pub const PARALLEL: u32 = 18;
-
-// A profile has no edge point.
-pub const PROFILE: u32 = 19;
-
-// There is no source position.
-pub const PLACE: u32 = 20;
+// The number of what a call returns: 0 for an answer, and else its refusal's.
+pub fn number_of<T>(returned: &Result<T, Refusal>) -> u32
+    ensures { result ≡ number_of returned.now }
+{
+    match returned {
+        Ok(_) => ANSWER,
+        Err(refusal) => u32::from(*refusal),
+    }
+}

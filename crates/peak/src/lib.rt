@@ -15,9 +15,9 @@ use consts::Settings;
 
 // The peak of a profile: its offset in samples, and its weight.
 #[derive(Clone, Copy)]
-pub enum Peaked {
-    Peak(f64, f64),
-    NoPeak,
+pub struct Peak {
+    pub offset: f64,
+    pub weight: f64,
 }
 
 // The gradients of a profile that a peak can need.
@@ -71,50 +71,50 @@ fn above_contrast_floor(settings: Settings, inverted: bool, g: f64) -> bool
     ensures { result ≡ above_contrast_floor settings inverted g }
 {
     let floor = settings.contrast_floor as f64;
-    if inverted {
-        return g * -1.0 >= floor;
-    }
-    g * 1.0 >= floor
+    let sign = if inverted { -1.0 } else { 1.0 };
+    g * sign >= floor
 }
 
 // The vertex of the parabola through three gradients, the middle one at i.
-fn vertex(gm1: f64, g0: f64, gp1: f64, i: u32) -> Peaked
+fn vertex(gm1: f64, g0: f64, gp1: f64, i: u32) -> Option<Peak>
     ensures { result ≡ vertex_of gm1 g0 gp1 i }
 {
     let denom = gm1 - 2.0 * g0 + gp1;
     if ieee::abs(denom) < 1e-9 {
-        return Peaked::NoPeak;
+        return None;
     }
     let delta = 0.5 * (gm1 - gp1) / denom;
-    if !ieee::is_finite(delta) {
-        return Peaked::NoPeak;
+    if !ieee::is_finite(delta) || ieee::abs(delta) > 1.0 {
+        return None;
     }
-    if ieee::abs(delta) > 1.0 {
-        return Peaked::NoPeak;
-    }
-    Peaked::Peak((i as f64 - 3.0) + delta, ieee::abs(g0))
+    Some(Peak {
+        offset: (i as f64 - 3.0) + delta,
+        weight: ieee::abs(g0),
+    })
 }
 
 // The peak of a profile, of the gradients that clear: 3 first, then of 2 and 4 the one of larger
 // magnitude, then 2.
-pub fn find_peak(settings: Settings, inverted: bool, inward_differs: bool, s: [f64; 7]) -> Peaked
+pub fn find_peak(
+    settings: Settings,
+    inverted: bool,
+    inward_differs: bool,
+    s: [f64; 7],
+) -> Option<Peak>
     ensures { result ≡ peak_of settings inverted inward_differs s }
 {
     let g = corrected(s, inward_differs);
     if above_contrast_floor(settings, inverted, g.g3) {
         return vertex(g.g2, g.g3, g.g4, 3);
     }
-    if above_contrast_floor(settings, inverted, g.g2) {
-        if !above_contrast_floor(settings, inverted, g.g4) {
-            return vertex(g.g1, g.g2, g.g3, 2);
-        }
-        if ieee::abs(g.g2) < ieee::abs(g.g4) {
-            return vertex(g.g3, g.g4, g.g5, 4);
-        }
-        return vertex(g.g1, g.g2, g.g3, 2);
-    }
-    if above_contrast_floor(settings, inverted, g.g4) {
+    let clears_2 = above_contrast_floor(settings, inverted, g.g2);
+    let clears_4 = above_contrast_floor(settings, inverted, g.g4);
+    if clears_4 && (!clears_2 || ieee::abs(g.g2) < ieee::abs(g.g4)) {
         return vertex(g.g3, g.g4, g.g5, 4);
     }
-    Peaked::NoPeak
+    if clears_2 {
+        vertex(g.g1, g.g2, g.g3, 2)
+    } else {
+        None
+    }
 }

@@ -2,5 +2,3 @@
 pub mod Pixels
 pub mod Photographs
 pub mod Bytes
--- the definitions opened together
-pub mod Opened

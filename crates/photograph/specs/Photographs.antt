@@ -1,7 +1,8 @@
--- A photograph: bytes by rows, and which are refused by 1 and 2. Definitions only, to be believed.
-use Rattle.std.specs.Prelude.{ℕ, ◌+◌, ◌-◌, ◌*◌, Bool, ◌&&◌, List, [], ◌∷◌, leb, get_or}
+-- A photograph: bytes by rows, and which are refused by `Size` and `Photograph`. Definitions only, to be believed.
+use Rattle.std.specs.Prelude.{ℕ, ◌+◌, ◌-◌, ◌*◌, Bool, ◌&&◌, List, [], ◌∷◌, leb, get_or, Result}
 use Rattle.prelude.specs.Checks.{Check, check, first}
-use Rattle.number.specs.Numbers as number
+use Rattle.number.specs.declared.Refusal.{Refusal}
+use Rattle.number.specs.declared.Refusal.TheVariants as refusal
 
 -- what a photograph shows at a column and a row
 abbrev pub Photo : Type 0
@@ -20,21 +21,21 @@ pixel x y = record { column = x; row = y }
 
 -- ---- entry checks 1 and 2
 
-unfoldable pub sized : ℕ → Bool
+abbrev pub sized : ℕ → Bool
 sized n = leb 1 n && leb n 16384
 
-unfoldable pub good_size : ℕ → ℕ → Bool
+abbrev pub good_size : ℕ → ℕ → Bool
 good_size w h = sized w && sized h
 
 -- of so many bytes
-unfoldable pub good_photograph : ℕ → ℕ → ℕ → ℕ → Bool
+abbrev pub good_photograph : ℕ → ℕ → ℕ → ℕ → Bool
 good_photograph w h stride bytes = leb w stride && leb stride 65535 && leb ((h - 1) * stride + w) bytes
 
-abbrev pub photograph_checks : ℕ → ℕ → ℕ → ℕ → List Check
+abbrev pub photograph_checks : ℕ → ℕ → ℕ → ℕ → List (Check Refusal)
 photograph_checks w h stride bytes =
-    check number.size (good_size w h)
-    ∷ check number.photograph (good_photograph w h stride bytes)
+    check refusal.Size (good_size w h)
+    ∷ check refusal.Photograph (good_photograph w h stride bytes)
     ∷ []
 
-unfoldable pub photograph_number : ℕ → ℕ → ℕ → ℕ → ℕ
-photograph_number w h stride bytes = first (photograph_checks w h stride bytes)
+abbrev pub photograph_check : ℕ → ℕ → ℕ → ℕ → Result (Unit {0}) Refusal
+photograph_check w h stride bytes = first (photograph_checks w h stride bytes)

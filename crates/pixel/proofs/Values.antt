@@ -17,5 +17,4 @@ pub origin_fits : Fits (source f0 f0)
 origin_fits = record { x = of_bits-fits binary64 0; y = of_bits-fits binary64 0 }
 
 pub source_fits : (sx sy : Float) (c : WorkingPixel) → Fits (to_source sx sy c)
-unfolding to_source
 source_fits sx sy c = record { x = div-fits binary64 c.0 sx; y = div-fits binary64 c.1 sy }

@@ -22,5 +22,5 @@ edge_point p w = record { pos = p; weight = w }
 abbrev pub corner : List SourcePixel → ℕ → SourcePixel
 corner q i = get_or q i (source nan nan)
 
-unfoldable pub to_source : Float → Float → WorkingPixel → SourcePixel
+abbrev pub to_source : Float → Float → WorkingPixel → SourcePixel
 to_source sx sy c = source (c.0 ⊘ sx) (c.1 ⊘ sy)

@@ -3,4 +3,5 @@ pub mod Tests
 pub mod Branches
 pub mod Tables
 pub mod Lists
+pub mod Results
 pub mod Checks

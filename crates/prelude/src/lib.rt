@@ -8,5 +8,5 @@ ghost use Rattle.prelude.specs.Prelude.{bit as bit_of};
 pub fn bit(b: bool) -> u32
     ensures { (result ≡ bit_of b) × (result ≤ 1) }
 {
-    if b { 1 } else { 0 }
+    u32::from(b)
 }

@@ -13,7 +13,7 @@ use Rattle.probe.specs.declared.Side.{Side}
 use Rattle.probe.specs.declared.ProbeRay.{ProbeRay}
 
 -- a point of the unit square, t along an edge: at the top and the left `near` from the side, at the other two `far` from the opposite one
-unfoldable pub point_on_side : ℕ → Float → Float → Float → SourcePixel
+abbrev pub point_on_side : ℕ → Float → Float → Float → SourcePixel
 point_on_side e near far t = by_side e (source t near) (source far t) (source t far) (source near t)
 
 -- the boundary point of the unit square, and the point one module further in
@@ -24,7 +24,7 @@ abbrev pub inward : ℕ → Float → Float → SourcePixel
 inward e inv_dim t = point_on_side e inv_dim (f1 ⊖ inv_dim) t
 
 -- where a probe looks: outwards from the point one module further in, by steps of half that length, the local module
-unfoldable pub probe_ray : Plan → Side → Probe → ProbeRay
+abbrev pub probe_ray : Plan → Side → Probe → ProbeRay
 probe_ray p side at =
     let b = boundary side.edge at.t in
     let i = inward side.edge (f1 ⊘ float p.dim) at.t in

@@ -19,7 +19,7 @@ pub struct Plan {
 }
 
 // One side of the label in a round: the round's map, which edge it is (0 top, 1 right, 2 bottom, 3 left), and the
-// corners that it joins.
+// corners that it joins. The edge is a number, as callers may pass any: past 2 it is the left one.
 #[derive(Clone, Copy)]
 pub struct Side {
     pub map: PerspectiveTransform,

@@ -5,7 +5,7 @@ use Prim.Native.Nat.{ℕ, zero, suc, ◌+◌, ◌-◌, ◌*◌, ◌/◌, ◌%◌
 use native.Mathlib.Nat.{sub-zero}
 use native.Mathlib.Numerals.{add-one}
 use native.Mathlib.Omega.{arith}
-use mathlib.Core.Bool.{Bool, true, false}
+use mathlib.Core.Bool.{Bool, true, false, not, ◌&&◌}
 use mathlib.Core.Logic.{◌⊎◌, inl, inr, ⊎_elim}
 use mathlib.Core.List.{List, [], ◌∷◌, ◌++◌, append_assoc, append-nil}
 use lib.ListN.{length, length-append, drop}
@@ -13,8 +13,8 @@ use lib.Seq.{drop-append-add, drop-nil}
 use Rattle.prelude.specs.Prelude.{when◌then◌else◌}
 use Rattle.consts.specs.declared.Settings.{Settings}
 use Rattle.grid.specs.Grids.{Grid, border_dark}
-use Rattle.probes.specs.Probes.{near_end, candidate_at, module_candidates, candidates_from, candidates}
-use Rattle.probes.specs.Places.{fraction_at, place_at, probe_at, candidate, candidates_of, onward, Sought}
+use Rattle.probes.specs.Probes.{near_end, module_candidates, candidates_from, candidates}
+use Rattle.probes.specs.Places.{place_at, probe_at, is_candidate, candidate, candidates_of, onward, Sought}
 use Rattle.probes.specs.declared.Probe.{Probe}
 
 pair : (dark : Bool) (x y : List Probe) → (when dark then x else []) ++ (when dark then y else []) ≡ (when dark then x ++ y else [])
@@ -25,7 +25,6 @@ module _ (s : Settings) (g : Grid) (e : ℕ) where
   -- ---- modules
 
   two_places : (m : ℕ) → candidate s g e (2 * m) ++ candidate s g e (suc (2 * m)) ≡ module_candidates s g e m
-  unfolding candidate fraction_at module_candidates
   two_places m =
       let half : 2 * m / 2 ≡ m = omega arith in
       let even : 2 * m % 2 ≡ 0 = omega arith in
@@ -51,7 +50,6 @@ module _ (s : Settings) (g : Grid) (e : ℕ) where
 
   -- from the start on they are all
   pub onward-all : onward s g e 0 ≡ candidates s g e
-  unfolding candidates
   onward-all = rw sub-zero (sym (modules-places g.dim 0 []))
 
   pub onward_more : (j : ℕ) → j < 2 * g.dim → onward s g e j ≡ candidate s g e j ++ onward s g e (j + 1)
@@ -66,7 +64,6 @@ module _ (s : Settings) (g : Grid) (e : ℕ) where
 
   -- a place holds one or none
   one_or_none : (j : ℕ) → (candidate s g e j ≡ probe_at s g e j ∷ []) ⊎ (candidate s g e j ≡ [])
-  unfolding candidate candidate_at probe_at
   one_or_none j = go (border_dark g e (j / 2)) (near_end s g.dim (place_at s j))
     where
       at : Bool → Bool → List Probe
@@ -76,6 +73,22 @@ module _ (s : Settings) (g : Grid) (e : ℕ) where
       go true true = inr refl
       go true false = inl refl
       go false near = inr refl
+
+  -- as the test says
+  candidate-counted : (j : ℕ) {b : Bool} → b ≡ is_candidate s g e j → (when b then 1 else 0) ≡ length (candidate s g e j)
+  candidate-counted j h = rw h (go (border_dark g e (j / 2)) (near_end s g.dim (place_at s j)))
+    where
+      go : (dark near : Bool) → (when dark && not near then 1 else 0) ≡ length (when dark then (when near then [] else probe_at s g e j ∷ []) else [])
+      go true true = refl
+      go true false = refl
+      go false near = refl
+
+  pub counted_as : (j : ℕ) {b : Bool} {n : ℕ} → b ≡ is_candidate s g e j → (b ≡ true → n ≡ 1) → (b ≡ false → n ≡ 0) → n ≡ length (candidate s g e j)
+  counted_as j {b} {n} h one none = go b refl
+    where
+      go : (t : Bool) → b ≡ t → n ≡ length (candidate s g e j)
+      go true q = one q ∙ candidate-counted j (sym q ∙ h)
+      go false q = none q ∙ candidate-counted j (sym q ∙ h)
 
   at_most_one : (j : ℕ) → length (candidate s g e j) ≤ 1
   at_most_one j = ⊎_elim (λ one. omega (arith, ap length one)) (λ none. omega (arith, ap length none)) (one_or_none j)
@@ -96,7 +109,7 @@ module _ (s : Settings) (g : Grid) (e : ℕ) where
 
   module _ (from skip : ℕ) where
     -- a place is passed
-    pub sought_on : (j : ℕ) {left here : ℕ} → j < 2 * g.dim → here ≡ length (candidate s g e j) → here ≤ left
+    sought_on : (j : ℕ) {left here : ℕ} → j < 2 * g.dim → here ≡ length (candidate s g e j) → here ≤ left
         → drop left (onward s g e j) ≡ drop skip (onward s g e from) → drop (left - here) (onward s g e (j + 1)) ≡ drop skip (onward s g e from)
     sought_on j {left} {here} l is few had =
         let behind = onward s g e (j + 1) in
@@ -106,14 +119,27 @@ module _ (s : Settings) (g : Grid) (e : ℕ) where
         ∙ ap (drop left) (sym (onward_more j l))
         ∙ had
 
-    pub sought_here : (j : ℕ) {left here : ℕ} → here ≡ length (candidate s g e j) → left < here
+    -- one that is none, or one of those that are passed
+    pub sought_past : (j left : ℕ) {b : Bool} → j < 2 * g.dim → b ≡ is_candidate s g e j → b ≡ false
+        → drop left (onward s g e j) ≡ drop skip (onward s g e from) → drop left (onward s g e (j + 1)) ≡ drop skip (onward s g e from)
+    sought_past j left l h isnt had = rw (← sub-zero left) (sought_on j l (candidate-counted j (sym isnt ∙ h)) (omega arith) had)
+
+    pub sought_over : (j : ℕ) {left : ℕ} {b : Bool} → j < 2 * g.dim → b ≡ is_candidate s g e j → b ≡ true → 0 < left
+        → drop left (onward s g e j) ≡ drop skip (onward s g e from) → drop (left - 1) (onward s g e (j + 1)) ≡ drop skip (onward s g e from)
+    sought_over j l h is some had = sought_on j l (candidate-counted j (sym is ∙ h)) (omega arith) had
+
+    sought_at : (j : ℕ) {left here : ℕ} → here ≡ length (candidate s g e j) → left < here
         → drop left (onward s g e j) ≡ drop skip (onward s g e from) → Sought s g e from skip j
-    sought_here j {left} is more had =
+    sought_at j {left} is more had =
         let none : left ≡ 0 = omega (arith, at_most_one j) in
         record {
           left = sym (ap (λ (n : ℕ). drop n (onward s g e j)) none) ∙ had;
           here = λ inside. ⊎_elim (λ one. one) (λ none. absurd (omega (arith, ap length none))) (one_or_none j);
         }
+
+    pub sought_here : (j : ℕ) {left : ℕ} {b : Bool} → b ≡ is_candidate s g e j → b ≡ true → left ≡ 0
+        → drop left (onward s g e j) ≡ drop skip (onward s g e from) → Sought s g e from skip j
+    sought_here j h is none had = sought_at j (candidate-counted j (sym is ∙ h)) (omega arith) had
 
     pub sought_none : (j left : ℕ) → 2 * g.dim ≤ j → drop left (onward s g e j) ≡ drop skip (onward s g e from) → Sought s g e from skip (2 * g.dim)
     sought_none j left l had = record {

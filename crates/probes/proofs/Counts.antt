@@ -14,7 +14,6 @@ use Rattle.grid.specs.Grids.{Grid}
 use Rattle.probes.specs.Probes.{decimated, probes_of}
 
 few-decimated : (most : ℕ) (ps : List Probe) → length (decimated most ps) ≤ most
-unfolding decimated
 few-decimated most ps = by_test (ltb most (length ps))
     (λ more. rw (more, length-take) (min-le_left most _))
     (λ enough. rw enough (ltb-false most (length ps) enough))
@@ -27,5 +26,4 @@ pub limit_in_room : (s : Settings) → probe_limit s ≤ max_edge_points
 limit_in_room s = min-le_right s.max_points_per_edge max_edge_points
 
 pub few-probes : (s : Settings) (g : Grid) (e : ℕ) → length (probes_of s g e) ≤ probe_limit s
-unfolding probes_of
 few-probes s g e = few-decimated _ _

@@ -3,19 +3,17 @@
 use mathlib.Core.Path.{◌≡◌, refl, sym, ap, ◌∙◌}
 use Prim.Native.Nat.{ℕ, zero, suc, ◌+◌, ◌*◌, ◌-◌, ◌/◌, ◌%◌, ◌≤◌, ◌<◌, min}
 use native.Mathlib.Nat.{suc-add, sub-zero, zero-mod, mod-one, mod-eq_of_lt, add-mod_right, le-div_iff_mul-le}
-use native.Mathlib.Numerals.{add-one}
 use native.Mathlib.Omega.{arith}
 use mathlib.Core.List.{List, [], ◌∷◌, ◌++◌, append_assoc, append-nil}
-use lib.ListN.{length, take, drop, set, length-set, replicate}
-use lib.Seq.{drop-cons, drop-set-lt, take_all, take-nil, take-suc-set}
+use lib.ListN.{length, length-append, take, drop}
+use lib.Seq.{take_all, take-nil}
 use borrow.Author.Tests.{lt-ltb, le-ltb, ne_eqb}
 use Rattle.consts.specs.Consts.{max_edge_points}
 use Rattle.consts.specs.declared.Settings.{Settings}
 use Rattle.grid.specs.Grids.{Grid}
-use Rattle.probes.specs.Probes.{every_from, decimation, decimated, candidates, probes_of, no_probe, Selected}
+use Rattle.probes.specs.Probes.{every_from, decimated, candidates, probes_of}
 use Rattle.probes.specs.Places.{probe_at, onward, Counted, Thins, Sought, Picked}
 use Rattle.probes.specs.declared.Probe.{Probe}
-use Rattle.probes.specs.declared.Probes.{Probes}
 use Rattle.probes.proofs.Candidates.{onward-all, onward_more, onward-end}
 
 -- ---- every k-th
@@ -48,7 +46,6 @@ every_next k x xs p = rw zero-mod (ap (λ (l : List Probe). x ∷ l) (every_over
 -- ---- the decimation
 
 pub thins_few : (n most : ℕ) → n ≤ most → Thins n most 1
-unfolding decimated
 thins_few n most l = record { some = omega arith; right = whole }
   where
     whole : (ps : List Probe) → length ps ≡ n → take most (every_from 1 0 ps) ≡ decimated most ps
@@ -57,7 +54,6 @@ thins_few n most l = record { some = omega arith; right = whole }
         rw (every_one 0 ps, le-ltb most (length ps) fits) (take_all most ps fits)
 
 pub thins_none : (n most : ℕ) → most < n → most ≡ 0 → Thins n most 1
-unfolding decimated
 thins_none n most l z = record { some = omega arith; right = none }
   where
     none : (ps : List Probe) → length ps ≡ n → take most (every_from 1 0 ps) ≡ decimated most ps
@@ -66,7 +62,6 @@ thins_none n most l z = record { some = omega arith; right = none }
         rw (lt-ltb most (length ps) some, z)
 
 pub thins_many : (n most : ℕ) → most < n → 0 < most → Thins n most ((n + (most - 1)) / most)
-unfolding decimated decimation
 thins_many n most l p = record { some = (le-div_iff_mul-le p).1 (omega arith); right = every }
   where
     every : (ps : List Probe) → length ps ≡ n → take most (every_from ((n + (most - 1)) / most) 0 ps) ≡ decimated most ps
@@ -76,81 +71,51 @@ thins_many n most l p = record { some = (le-div_iff_mul-le p).1 (omega arith); r
 
 -- ---- the store
 
--- nothing stands behind one that is stored
-unstored : (ps : List Probe) (n : ℕ) (p : Probe) → n < length ps → length ps ≡ max_edge_points → drop n ps ≡ replicate (max_edge_points - n) no_probe
-    → drop (n + 1) (set ps n p) ≡ replicate (max_edge_points - (n + 1)) no_probe
-unstored ps n p l w h =
-    let less : max_edge_points - n ≡ suc (max_edge_points - suc n) = omega arith in
-    rw add-one
-    (drop-set-lt (suc n) ps n p (omega arith)
-    ∙ sym (ap (drop 1) (drop-cons ps n no_probe l))
-    ∙ ap (drop 1) h
-    ∙ ap (λ (m : ℕ). drop 1 (replicate m no_probe)) less)
-
 module _ (s : Settings) (g : Grid) (e k most : ℕ) where
-  -- the first n are taken, nothing stands behind them, and what is due of the candidates from place j on, behind so many, fills the rest
-  pub record Filled (j skip : ℕ) (ps : List Probe) (n : ℕ) : Type 0 where
-    pub fits : n ≤ most
-    pub whole : length ps ≡ max_edge_points
-    pub taken : take n ps ++ take (most - n) (every_from k 0 (drop skip (onward s g e j))) ≡ take most (every_from k 0 (candidates s g e))
-    pub none : drop n ps ≡ replicate (max_edge_points - n) no_probe
+  -- these are taken, and what is due of the candidates from place j on, behind so many, fills the rest
+  pub record Filled (j skip : ℕ) (ps : List Probe) : Type 0 where
+    pub fits : length ps ≤ most
+    pub taken : ps ++ take (most - length ps) (every_from k 0 (drop skip (onward s g e j))) ≡ take most (every_from k 0 (candidates s g e))
 
-  pub filled_none : (ps : List Probe) → ps ≡ replicate max_edge_points no_probe → Filled 0 0 ps 0
-  filled_none ps h = record {
-    fits = omega arith;
-    whole = ap length h;
-    taken = rw sub-zero (ap (λ (l : List Probe). take most (every_from k 0 l)) (onward-all s g e));
-    none = h;
-  }
+  pub filled_none : Filled 0 0 []
+  filled_none = record { fits = omega arith; taken = rw sub-zero (ap (λ (l : List Probe). take most (every_from k 0 l)) (onward-all s g e)) }
 
-  -- the next candidate is stored
-  pub filled_more : {j skip r : ℕ} {ps : List Probe} {n : ℕ} {p : Probe} → Filled j skip ps n → n < most → most ≤ max_edge_points → 0 < k → Sought s g e j skip r → r < 2 * g.dim → p ≡ probe_at s g e r
-      → Filled (r + 1) (k - 1) (set ps n p) (n + 1)
-  filled_more {j} {skip} {r} {ps} {n} {p} had l h some at inside is =
-      let one : most - n ≡ suc (most - (n + 1)) = omega arith in
-      let stored : take (n + 1) (set ps n p) ≡ take n ps ++ (p ∷ []) = rw add-one (take-suc-set ps n p (omega arith)) in
+  -- the next candidate is taken
+  pub filled_more : {j skip r : ℕ} {ps : List Probe} {p : Probe} → Filled j skip ps → length ps < most → 0 < k → Sought s g e j skip r → r < 2 * g.dim → p ≡ probe_at s g e r
+      → Filled (r + 1) (k - 1) (ps ++ p ∷ [])
+  filled_more {j} {skip} {r} {ps} {p} had l some at inside is =
+      let long : length (ps ++ p ∷ []) ≡ length ps + 1 = length-append ps (p ∷ []) in
+      let one : most - length ps ≡ suc (most - length (ps ++ p ∷ [])) = omega (arith, long) in
       let due = every_from k 0 (drop (k - 1) (onward s g e (r + 1))) in
       let found : drop skip (onward s g e j) ≡ p ∷ onward s g e (r + 1) = sym at.left ∙ onward_more s g e r inside ∙ rw (at.here inside, is) in
       record {
-        fits = omega arith;
-        whole = length-set ps n p ∙ had.whole;
-        taken = ap (λ (l : List Probe). l ++ take (most - (n + 1)) due) stored
-            ∙ append_assoc (take n ps) (p ∷ []) (take (most - (n + 1)) due)
-            ∙ ap (λ (m : ℕ). take n ps ++ take m (p ∷ due)) (sym one)
-            ∙ ap (λ (l : List Probe). take n ps ++ take (most - n) l) (sym (ap (every_from k 0) found ∙ every_next k p (onward s g e (r + 1)) some))
+        fits = omega (arith, long);
+        taken = append_assoc ps (p ∷ []) (take (most - length (ps ++ p ∷ [])) due)
+            ∙ ap (λ (m : ℕ). ps ++ take m (p ∷ due)) (sym one)
+            ∙ ap (λ (l : List Probe). ps ++ take (most - length ps) l) (sym (ap (every_from k 0) found ∙ every_next k p (onward s g e (r + 1)) some))
             ∙ had.taken;
-        none = unstored ps n p (omega arith) had.whole had.none;
       }
 
   -- nothing is due any more
-  picked : (j skip : ℕ) (ps : List Probe) (n : ℕ) → Filled j skip ps n → take (most - n) (every_from k 0 (drop skip (onward s g e j))) ≡ []
-      → Picked s g e k most (record { count = n; probes = ps })
-  picked j skip ps n had due = record {
-    probes = sym (append-nil (take n ps)) ∙ ap (λ (l : List Probe). take n ps ++ l) (sym due) ∙ had.taken;
-    rest = had.none;
-    fits = had.fits;
-    whole = had.whole;
-  }
+  picked : (j skip : ℕ) (ps : List Probe) → Filled j skip ps → take (most - length ps) (every_from k 0 (drop skip (onward s g e j))) ≡ []
+      → Picked s g e k most ps
+  picked j skip ps had due = sym (append-nil ps) ∙ ap (λ (l : List Probe). ps ++ l) (sym due) ∙ had.taken
 
   -- no candidate is left
-  pub picked_all : {j skip r : ℕ} {ps : List Probe} {n : ℕ} → Filled j skip ps n → Sought s g e j skip r → 2 * g.dim ≤ r → Picked s g e k most (record { count = n; probes = ps })
+  pub picked_all : {j skip r : ℕ} {ps : List Probe} → Filled j skip ps → Sought s g e j skip r → 2 * g.dim ≤ r → Picked s g e k most ps
   unfolding every_from
-  picked_all {j} {skip} {r} {ps} {n} had at l =
+  picked_all {j} {skip} {r} {ps} had at l =
       let none : drop skip (onward s g e j) ≡ [] = sym at.left ∙ onward-end s g e r l in
-      picked j skip ps n had (rw none (take-nil (most - n)))
+      picked j skip ps had (rw none (take-nil (most - length ps)))
 
   -- there is no room left
-  pub picked_full : {j skip : ℕ} {ps : List Probe} {n : ℕ} → Filled j skip ps n → most ≤ n → Picked s g e k most (record { count = n; probes = ps })
-  picked_full {j} {skip} {ps} {n} had full = let none : most - n ≡ 0 = omega arith in picked j skip ps n had (rw none)
+  pub picked_full : {j skip : ℕ} {ps : List Probe} → Filled j skip ps → most ≤ length ps → Picked s g e k most ps
+  picked_full {j} {skip} {ps} had full = let none : most - length ps ≡ 0 = omega arith in picked j skip ps had (rw none)
 
 -- ---- the selection
 
 -- the candidates are counted, the decimation is theirs, and every k-th is picked
-pub selected : (s : Settings) (g : Grid) (e n most k : ℕ) {r : Probes} → most ≡ min s.max_points_per_edge max_edge_points → Counted s g e n → Thins n most k → Picked s g e k most r → Selected s g e r
-unfolding probes_of
-selected s g e n most k h counted thins picked = record {
-  probes = picked.probes ∙ thins.right (candidates s g e) (sym counted.all) ∙ ap (λ (l : ℕ). decimated l (candidates s g e)) h;
-  rest = picked.rest;
-  fits = omega arith;
-  whole = picked.whole;
-}
+pub selected : (s : Settings) (g : Grid) (e n most k : ℕ) {r : List Probe} → most ≡ min s.max_points_per_edge max_edge_points → Counted s g e n → Thins n most k → Picked s g e k most r
+    → r ≡ probes_of s g e
+selected s g e n most k h counted thins picked =
+    picked ∙ thins.right (candidates s g e) (sym counted.all) ∙ ap (λ (l : ℕ). decimated l (candidates s g e)) h

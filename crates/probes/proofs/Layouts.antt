@@ -1,5 +1,5 @@
 -- Where the modules of an edge lie: from its start on, one apart along a row and dim apart along a column. Assumes nothing.
-use mathlib.Core.Path.{◌≡◌, refl, sym, subst}
+use mathlib.Core.Path.{◌≡◌, refl}
 use Prim.Native.Nat.{ℕ, ◌+◌, ◌-◌, ◌*◌, ◌≤◌, ◌<◌}
 use native.Mathlib.Nat.{add_comm, mul-one}
 use native.Mathlib.Omega.{arith}
@@ -10,8 +10,7 @@ use lib.ListN.{get_or}
 use Rattle.prelude.specs.Prelude.{when◌then◌else◌}
 use Rattle.pixel.proofs.Places.{row-most}
 use Rattle.grid.specs.Grids.{grid_of, by_side, dark, edge_dark, border_dark, inward_dark}
-use Rattle.probes.specs.Places.{start_of, stride_of, layout_of, IsLayout, dark_at}
-use Rattle.probes.specs.declared.EdgeLayout.{EdgeLayout}
+use Rattle.probes.specs.Layouts.{start_of, stride_of, dark_at}
 
 -- what holds of each edge holds of the edge at hand
 each_side : {A : Type 0} (e : ℕ) (P : A → ℕ → ℕ → Type 0) {a b c d : A} {i j k l m n o p : ℕ} → P a i m → P b j n → P c k o → P d l p
@@ -34,16 +33,14 @@ pub record Lies (ms : List ℕ) (m : ℕ) (b : Bool) (first step : ℕ) : Type 0
   pub fits : first + m * step < 18446744073709551616
 
 along-row : (ms : List ℕ) (m first : ℕ) → first + m < 18446744073709551616 → Lies ms m (eqb (get_or ms (first + m) 0) 1) first 1
-unfolding dark_at
 along-row ms m first l = record { dark = rw mul-one; fits = rw mul-one l }
 
 along-column : (ms : List ℕ) (m first dim : ℕ) → m * dim + first < 18446744073709551616 → Lies ms m (eqb (get_or ms (m * dim + first) 0) 1) first dim
-unfolding dark_at
 along-column ms m first dim l = rw (add_comm (m * dim) first) (record { dark = refl; fits = rw (add_comm first) l })
 
 edge_lies : (dim e m depth : ℕ) (ms : List ℕ) → dim ≤ 4294967295 → m ≤ 4294967295 → depth ≤ 4294967295
     → Lies ms m (edge_dark (grid_of dim ms) e m depth) (start_of dim e depth) (stride_of dim e)
-unfolding edge_dark dark start_of stride_of
+unfolding edge_dark dark
 edge_lies dim e m depth ms p q l =
     let far : dim - 1 - depth ≤ 4294967295 = omega arith in
     each_side e (Lies ms m)
@@ -52,15 +49,12 @@ edge_lies dim e m depth ms p q l =
     (along-row ms m ((dim - 1 - depth) * dim) (place-fits (dim - 1 - depth) dim m far p q))
     (along-column ms m depth dim (place-fits m dim depth q p l))
 
-pub is_layout : (dim e : ℕ) {r : EdgeLayout} → r ≡ layout_of dim e → IsLayout r
-unfolding layout_of
-is_layout dim e h = subst IsLayout (sym h) refl
+module _ (dim e m : ℕ) (ms : List ℕ) {first step : ℕ} (step_lies : step ≡ stride_of dim e) (p : dim ≤ 4294967295) (q : m ≤ 4294967295) where
+  lies : (depth : ℕ) → depth ≤ 4294967295 → first ≡ start_of dim e depth → Lies ms m (edge_dark (grid_of dim ms) e m depth) first step
+  lies depth l h = rw (h, step_lies) (edge_lies dim e m depth ms p q l)
 
-module _ (r : EdgeLayout) (is : IsLayout r) (m : ℕ) (ms : List ℕ) (p : r.dim ≤ 4294967295) (q : m ≤ 4294967295) where
-  pub border_lies : Lies ms m (border_dark (grid_of r.dim ms) r.edge m) r.border r.step
-  unfolding layout_of
-  border_lies = subst (λ (o : EdgeLayout). Lies ms m (border_dark (grid_of r.dim ms) r.edge m) o.border o.step) (sym is) (edge_lies r.dim r.edge m 0 ms p q (omega arith))
+  pub border_lies : first ≡ start_of dim e 0 → Lies ms m (border_dark (grid_of dim ms) e m) first step
+  border_lies = lies 0 (omega arith)
 
-  pub inward_lies : Lies ms m (inward_dark (grid_of r.dim ms) r.edge m) r.inward r.step
-  unfolding layout_of
-  inward_lies = subst (λ (o : EdgeLayout). Lies ms m (inward_dark (grid_of r.dim ms) r.edge m) o.inward o.step) (sym is) (edge_lies r.dim r.edge m 1 ms p q (omega arith))
+  pub inward_lies : first ≡ start_of dim e 1 → Lies ms m (inward_dark (grid_of dim ms) e m) first step
+  inward_lies = lies 1 (omega arith)

@@ -1,6 +1,6 @@
 -- The definitions of `probes`, opened together: a proof that computes with them unfolds this one name. Assumes nothing.
-use Rattle.probes.specs.Probes.{near_end, candidate_at, module_candidates, candidates_from, candidates, every_from, decimation, decimated, probes_of}
+use Rattle.probes.specs.Probes.{candidates_from, every_from}
 
 unfoldable pub opened : Unit {0}
-unfolding near_end candidate_at module_candidates candidates_from candidates every_from decimation decimated probes_of
+unfolding candidates_from every_from
 opened = tt

@@ -1,28 +1,27 @@
 -- refine.rs, the selection of probes (531 to 561): two in each dark border module of the middle of an
--- edge, decimated to a limit; and what an array of probes holds. Definitions only, to be believed.
-use Rattle.std.specs.Prelude.{◌≡◌, ℕ, zero, suc, ◌+◌, ◌-◌, ◌/◌, ◌%◌, ◌≤◌, min, Bool, false, not, ◌||◌, List, [], ◌∷◌, ◌++◌, ltb, eqb, length, take, drop, replicate, Float}
+-- edge, decimated to a limit. Definitions only, to be believed.
+use Rattle.std.specs.Prelude.{ℕ, zero, suc, ◌+◌, ◌-◌, ◌/◌, ◌%◌, min, Bool, not, ◌||◌, List, [], ◌∷◌, ◌++◌, ltb, eqb, length, take, Float}
 use Rattle.prelude.specs.Prelude.{when◌then◌else◌}
-use Rattle.ieee.specs.Floats.{◌⊕◌, ◌⊖◌, ◌⊘◌, ◌≺◌, float, f0}
+use Rattle.ieee.specs.Floats.{◌⊕◌, ◌⊖◌, ◌⊘◌, ◌≺◌, float}
 use Rattle.consts.specs.Consts.{max_edge_points}
 use Rattle.consts.specs.declared.Settings.{Settings}
 use Rattle.grid.specs.Grids.{Grid, border_dark, inward_dark}
 use Rattle.probes.specs.declared.Probe.{Probe}
-use Rattle.probes.specs.declared.Probes.{Probes}
 
 -- ---- candidates
 
 -- whether a place, in modules from an edge's start, lies in the margin at either end
-unfoldable pub near_end : Settings → ℕ → Float → Bool
+abbrev pub near_end : Settings → ℕ → Float → Bool
 near_end s dim at = (at ≺ s.edge_margin_modules) || (float dim ⊖ s.edge_margin_modules ≺ at)
 
 -- the candidate at a fraction of module m, if it lies in the middle of the edge
-unfoldable pub candidate_at : Settings → Grid → ℕ → ℕ → Float → List Probe
+abbrev pub candidate_at : Settings → Grid → ℕ → ℕ → Float → List Probe
 candidate_at s g e m fraction =
     let at = float m ⊕ fraction in
     when near_end s g.dim at then [] else
     record { t = at ⊘ float g.dim; inward_differs = not (inward_dark g e m) } ∷ []
 
-unfoldable pub module_candidates : Settings → Grid → ℕ → ℕ → List Probe
+abbrev pub module_candidates : Settings → Grid → ℕ → ℕ → List Probe
 module_candidates s g e m =
     when border_dark g e m then candidate_at s g e m s.probe_fraction_first ++ candidate_at s g e m s.probe_fraction_second else []
 
@@ -31,7 +30,7 @@ unfoldable pub candidates_from : Settings → Grid → ℕ → ℕ → ℕ → L
 candidates_from s g e zero m got = got
 candidates_from s g e (suc n) m got = candidates_from s g e n (suc m) (got ++ module_candidates s g e m)
 
-unfoldable pub candidates : Settings → Grid → ℕ → List Probe
+abbrev pub candidates : Settings → Grid → ℕ → List Probe
 candidates s g e = candidates_from s g e g.dim 0 []
 
 -- ---- every k-th
@@ -42,29 +41,14 @@ every_from k i [] = []
 every_from k i (x ∷ xs) = when eqb (i % k) 0 then x ∷ every_from k (suc i) xs else every_from k (suc i) xs
 
 -- the ceiling of n / most
-unfoldable pub decimation : ℕ → ℕ → ℕ
+abbrev pub decimation : ℕ → ℕ → ℕ
 decimation n most = (n + (most - 1)) / most
 
 -- at most so many: beyond that every k-th, k the ceiling of how often they fit
-unfoldable pub decimated : ℕ → List Probe → List Probe
+abbrev pub decimated : ℕ → List Probe → List Probe
 decimated most ps = when ltb most (length ps) then take most (every_from (decimation (length ps) most) 0 ps) else ps
 
 -- ---- the probes of an edge
 
-unfoldable pub probes_of : Settings → Grid → ℕ → List Probe
+abbrev pub probes_of : Settings → Grid → ℕ → List Probe
 probes_of s g e = decimated (min s.max_points_per_edge max_edge_points) (candidates s g e)
-
--- those that are in
-abbrev pub held : Probes → List Probe
-held r = take r.count r.probes
-
--- what stands in the array behind them
-abbrev pub no_probe : Probe
-no_probe = record { t = f0; inward_differs = false }
-
--- what the selection promises: the probes of an edge, and nothing behind them, in an array that has room for them
-pub record Selected (s : Settings) (g : Grid) (e : ℕ) (r : Probes) : Type 0 where
-  pub probes : held r ≡ probes_of s g e
-  pub rest : drop r.count r.probes ≡ replicate (max_edge_points - r.count) no_probe
-  pub fits : r.count ≤ max_edge_points
-  pub whole : length r.probes ≡ max_edge_points

@@ -1,25 +1,23 @@
 -- homography.rs: the map of the unit square to four corners (28 to 71), and of one quad to another (210 to
 -- 214), in the Rust's order of operations. Definitions only, to be believed.
-use Rattle.std.specs.Prelude.{◌&&◌, List, Float}
+use Rattle.std.specs.Prelude.{◌&&◌, List, Float, Option, Some, None, ok_or, Result}
 use Rattle.prelude.specs.Prelude.{when◌then◌else◌}
-use Rattle.number.specs.Numbers as number
+use Rattle.number.specs.declared.Refusal.{Refusal}
+use Rattle.number.specs.declared.Refusal.TheVariants as refusal
 use Rattle.ieee.specs.Floats.{◌⊕◌, ◌⊖◌, ◌⊗◌, ◌⊘◌, ◌≐◌, f0, f1}
 use Rattle.pixel.specs.Pixels.{corner}
 use Rattle.pixel.specs.declared.SourcePixel.{SourcePixel}
 use Rattle.homography.specs.declared.PerspectiveTransform.{PerspectiveTransform}
 use Rattle.homography.specs.Homography.{inverse, composed}
-use Rattle.quad.specs.declared.Mapped.{Mapped}
-use Rattle.quad.specs.declared.Mapped.TheVariants.{By, NoMap}
-use Rattle.quad.specs.declared.MapAnswer.{MapAnswer}
 
 -- ---- `square_to_quad`: the unit square (0, 0), (1, 0), (1, 1), (0, 1) to four corners
 
 -- the corners are a parallelogram; it has no map where its area is 0
-unfoldable pub affine : (x0 y0 x1 y1 x2 y2 x3 y3 : Float) → Mapped
+abbrev pub affine : (x0 y0 x1 y1 x2 y2 x3 y3 : Float) → Option PerspectiveTransform
 affine x0 y0 x1 y1 x2 y2 x3 y3 =
     let cross = (x1 ⊖ x0) ⊗ (y3 ⊖ y0) ⊖ (y1 ⊖ y0) ⊗ (x3 ⊖ x0) in
-    when cross ≐ f0 then NoMap else
-    By (record {
+    when cross ≐ f0 then None else
+    Some (record {
       a11 = x1 ⊖ x0;
       a21 = x2 ⊖ x1;
       a31 = x0;
@@ -32,7 +30,7 @@ affine x0 y0 x1 y1 x2 y2 x3 y3 =
     })
 
 -- any other corners (Heckbert)
-unfoldable pub projective : (x0 y0 x1 y1 x2 y2 x3 y3 dx3 dy3 : Float) → Mapped
+abbrev pub projective : (x0 y0 x1 y1 x2 y2 x3 y3 dx3 dy3 : Float) → Option PerspectiveTransform
 projective x0 y0 x1 y1 x2 y2 x3 y3 dx3 dy3 =
     let dx1 = x1 ⊖ x2 in
     let dx2 = x3 ⊖ x2 in
@@ -41,8 +39,8 @@ projective x0 y0 x1 y1 x2 y2 x3 y3 dx3 dy3 =
     let den = dx1 ⊗ dy2 ⊖ dx2 ⊗ dy1 in
     let a13 = (dx3 ⊗ dy2 ⊖ dx2 ⊗ dy3) ⊘ den in
     let a23 = (dx1 ⊗ dy3 ⊖ dx3 ⊗ dy1) ⊘ den in
-    when den ≐ f0 then NoMap else
-    By (record {
+    when den ≐ f0 then None else
+    Some (record {
       a11 = x1 ⊖ x0 ⊕ a13 ⊗ x1;
       a21 = x3 ⊖ x0 ⊕ a23 ⊗ x3;
       a31 = x0;
@@ -54,7 +52,7 @@ projective x0 y0 x1 y1 x2 y2 x3 y3 dx3 dy3 =
       a33 = f1;
     })
 
-unfoldable pub quad_map : (x0 y0 x1 y1 x2 y2 x3 y3 : Float) → Mapped
+abbrev pub quad_map : (x0 y0 x1 y1 x2 y2 x3 y3 : Float) → Option PerspectiveTransform
 quad_map x0 y0 x1 y1 x2 y2 x3 y3 =
     let dx3 = x0 ⊖ x1 ⊕ x2 ⊖ x3 in
     let dy3 = y0 ⊖ y1 ⊕ y2 ⊖ y3 in
@@ -62,26 +60,22 @@ quad_map x0 y0 x1 y1 x2 y2 x3 y3 =
     then affine x0 y0 x1 y1 x2 y2 x3 y3
     else projective x0 y0 x1 y1 x2 y2 x3 y3 dx3 dy3
 
-unfoldable pub square_to_quad : List SourcePixel → Mapped
+abbrev pub square_to_quad : List SourcePixel → Option PerspectiveTransform
 square_to_quad q =
     quad_map (corner q 0).0 (corner q 0).1 (corner q 1).0 (corner q 1).1 (corner q 2).0 (corner q 2).1 (corner q 3).0 (corner q 3).1
 
 -- ---- `quad_to_quad`
 
-unfoldable pub joined : Mapped → Mapped → Mapped
-joined NoMap d = NoMap
-joined (By s) NoMap = NoMap
-joined (By s) (By d) = By (composed (inverse s) d)
+abbrev pub joined : Option PerspectiveTransform → Option PerspectiveTransform → Option PerspectiveTransform
+joined None d = None
+joined (Some s) None = None
+joined (Some s) (Some d) = Some (composed (inverse s) d)
 
 -- back from one quad to the unit square, and on to the other
-unfoldable pub quad_to_quad : List SourcePixel → List SourcePixel → Mapped
+abbrev pub quad_to_quad : List SourcePixel → List SourcePixel → Option PerspectiveTransform
 quad_to_quad from to = joined (square_to_quad from) (square_to_quad to)
 
--- ---- what an answer says: document 01's number, and the values
+-- ---- what a call returns
 
-abbrev pub zero_map : PerspectiveTransform
-zero_map = record { a11 = f0; a21 = f0; a31 = f0; a12 = f0; a22 = f0; a32 = f0; a13 = f0; a23 = f0; a33 = f0 }
-
-unfoldable pub map_answer : Mapped → MapAnswer
-map_answer (By m) = record { number = number.answer; map = m }
-map_answer NoMap = record { number = number.quad; map = zero_map }
+abbrev pub map_answer : Option PerspectiveTransform → Result PerspectiveTransform Refusal
+map_answer map = ok_or map refusal.Quad

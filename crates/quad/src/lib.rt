@@ -2,48 +2,45 @@
 #![tactic(auto)]
 
 ghost use Rattle.std.specs.Prelude.{◌≡◌};
-ghost use Rattle.quad.specs.Quad.{affine, joined, map_answer, projective, quad_to_quad, square_to_quad};
+ghost use Rattle.quad.specs.Quad.{affine, map_answer, projective, quad_to_quad, square_to_quad};
 
 use homography::PerspectiveTransform;
+use number::Refusal;
 use pixel::SourcePixel;
 
-// The map of four corners, where they have one.
-#[derive(Clone, Copy)]
-pub enum Mapped {
-    By(PerspectiveTransform),
-    NoMap,
-}
-
-// What a quad call returns: a number of document 01, and the map or zeros.
-#[derive(Clone, Copy)]
-pub struct MapAnswer {
-    pub number: u32,
-    pub map: PerspectiveTransform,
-}
-
-// The map of the unit square (0, 0), (1, 0), (1, 1), (0, 1) to these corners; 8 and zeros where there is none.
-pub fn square_to_quad(q: [SourcePixel; 4]) -> MapAnswer
+// The map of the unit square (0, 0), (1, 0), (1, 1), (0, 1) to these corners.
+pub fn square_to_quad(q: [SourcePixel; 4]) -> Result<PerspectiveTransform, Refusal>
     ensures { result ≡ map_answer (square_to_quad q) }
 {
-    answer_of(quad_map(q))
+    quad_map(q).ok_or(Refusal::Quad)
 }
 
-// The map of one quad to another; 8 and zeros where one of them has none.
-pub fn quad_to_quad(from: [SourcePixel; 4], to: [SourcePixel; 4]) -> MapAnswer
+// The map of one quad to another: back to the unit square, and on to the other.
+pub fn quad_to_quad(
+    from: [SourcePixel; 4],
+    to: [SourcePixel; 4],
+) -> Result<PerspectiveTransform, Refusal>
     ensures { result ≡ map_answer (quad_to_quad from to) }
 {
-    answer_of(joined_map(quad_map(from), quad_map(to)))
+    let source = square_to_quad(from)?;
+    let target = square_to_quad(to)?;
+    Ok(source.inverse().then(target))
 }
 
 // A parallelogram, which has no map where its area is 0.
-fn affine_map(p0: SourcePixel, p1: SourcePixel, p2: SourcePixel, p3: SourcePixel) -> Mapped
+fn affine_map(
+    p0: SourcePixel,
+    p1: SourcePixel,
+    p2: SourcePixel,
+    p3: SourcePixel,
+) -> Option<PerspectiveTransform>
     ensures { result ≡ affine p0.0 p0.1 p1.0 p1.1 p2.0 p2.1 p3.0 p3.1 }
 {
     let cross = (p1.0 - p0.0) * (p3.1 - p0.1) - (p1.1 - p0.1) * (p3.0 - p0.0);
     if cross == 0.0 {
-        return Mapped::NoMap;
+        return None;
     }
-    Mapped::By(PerspectiveTransform {
+    Some(PerspectiveTransform {
         a11: p1.0 - p0.0,
         a21: p2.0 - p1.0,
         a31: p0.0,
@@ -64,7 +61,7 @@ fn projective_map(
     p3: SourcePixel,
     dx3: f64,
     dy3: f64,
-) -> Mapped
+) -> Option<PerspectiveTransform>
     ensures { result ≡ projective p0.0 p0.1 p1.0 p1.1 p2.0 p2.1 p3.0 p3.1 dx3 dy3 }
 {
     let dx1 = p1.0 - p2.0;
@@ -73,11 +70,11 @@ fn projective_map(
     let dy2 = p3.1 - p2.1;
     let den = dx1 * dy2 - dx2 * dy1;
     if den == 0.0 {
-        return Mapped::NoMap;
+        return None;
     }
     let a13 = (dx3 * dy2 - dx2 * dy3) / den;
     let a23 = (dx1 * dy3 - dx3 * dy1) / den;
-    Mapped::By(PerspectiveTransform {
+    Some(PerspectiveTransform {
         a11: p1.0 - p0.0 + a13 * p1.0,
         a21: p3.0 - p0.0 + a23 * p3.0,
         a31: p0.0,
@@ -91,7 +88,7 @@ fn projective_map(
 }
 
 // `square_to_quad` as the refinement calls it.
-pub fn quad_map(q: [SourcePixel; 4]) -> Mapped
+pub fn quad_map(q: [SourcePixel; 4]) -> Option<PerspectiveTransform>
     ensures { result ≡ square_to_quad q }
 {
     let p0 = q[0];
@@ -100,50 +97,9 @@ pub fn quad_map(q: [SourcePixel; 4]) -> Mapped
     let p3 = q[3];
     let dx3 = p0.0 - p1.0 + p2.0 - p3.0;
     let dy3 = p0.1 - p1.1 + p2.1 - p3.1;
-    if dx3 != 0.0 {
-        return projective_map(p0, p1, p2, p3, dx3, dy3);
-    }
-    if dy3 != 0.0 {
-        return projective_map(p0, p1, p2, p3, dx3, dy3);
-    }
-    affine_map(p0, p1, p2, p3)
-}
-
-// Back from one quad to the unit square, and on to the other.
-fn joined_map(from: Mapped, to: Mapped) -> Mapped
-    ensures { result ≡ joined from to }
-{
-    let Mapped::By(s) = from else {
-        return Mapped::NoMap;
-    };
-    let Mapped::By(d) = to else {
-        return Mapped::NoMap;
-    };
-    Mapped::By(s.inverse().then(d))
-}
-
-// A map as an answer: 8 and a zero map where there is none.
-fn answer_of(m: Mapped) -> MapAnswer
-    ensures { result ≡ map_answer m }
-{
-    match m {
-        Mapped::By(map) => MapAnswer {
-            number: number::ANSWER,
-            map,
-        },
-        Mapped::NoMap => MapAnswer {
-            number: number::QUAD,
-            map: PerspectiveTransform {
-                a11: 0.0,
-                a21: 0.0,
-                a31: 0.0,
-                a12: 0.0,
-                a22: 0.0,
-                a32: 0.0,
-                a13: 0.0,
-                a23: 0.0,
-                a33: 0.0,
-            },
-        },
+    if dx3 == 0.0 && dy3 == 0.0 {
+        affine_map(p0, p1, p2, p3)
+    } else {
+        projective_map(p0, p1, p2, p3, dx3, dy3)
     }
 }

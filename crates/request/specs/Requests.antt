@@ -1,14 +1,15 @@
 -- refine.rs, the arguments of `refine_corners` (662) and `refine_corners_mapped` (683), the entry checks, and the
 -- division (713). Definitions only, to be believed.
-use Rattle.std.specs.Prelude.{ℕ, ◌*◌, Bool, true, not, ◌&&◌, List, [], ◌∷◌, ◌++◌, map, length, Float}
+use Rattle.std.specs.Prelude.{ℕ, ◌*◌, Bool, not, ◌&&◌, List, [], ◌∷◌, ◌++◌, map, length, Float, None, Result}
+use Rattle.std.specs.List.{list_all}
 use Rattle.prelude.specs.Checks.{Check, check, first}
-use Rattle.number.specs.Numbers as number
+use Rattle.number.specs.declared.Refusal.{Refusal}
+use Rattle.number.specs.declared.Refusal.TheVariants as refusal
 use Rattle.ieee.specs.Parts.{is_finite, magnitude}
 use Rattle.ieee.specs.Floats.{◌≺◌, f0, f2^20}
 use Rattle.pixel.specs.Pixels.{to_source}
 use Rattle.pixel.specs.declared.SourcePixel.{SourcePixel}
 use Rattle.photograph.specs.Photographs.{Photo, photo, photograph_checks}
-use Rattle.footprint.specs.declared.View.TheVariants.{Plain}
 use Rattle.footprint.specs.declared.Scene.{Scene}
 use Rattle.footprint.specs.Footprints.{good_view}
 use Rattle.grid.specs.Grids.{grid_of, good_grid}
@@ -30,7 +31,7 @@ plain r = record {
   sy = r.sy;
   corners = r.corners;
   inverted = r.inverted;
-  view = Plain;
+  view = None;
   settings = r.settings;
 }
 
@@ -42,31 +43,30 @@ abbrev pub photograph : List ℕ → ℕ → Photograph
 photograph bytes stride = record { bytes = bytes; stride = stride }
 
 -- the corners after the division
-unfoldable pub source_corners : Request → List SourcePixel
+abbrev pub source_corners : Request → List SourcePixel
 source_corners r = map (to_source r.sx r.sy) r.corners
 
 -- ---- the entry checks, 1 to 6
 
-unfoldable pub good_scale : Float → Bool
+abbrev pub good_scale : Float → Bool
 good_scale s = is_finite s && (f0 ≺ s)
 
-unfoldable pub within_bounds : Float → Bool
+abbrev pub within_bounds : Float → Bool
 within_bounds x = is_finite x && not (f2^20 ≺ magnitude x)
 
-unfoldable pub all_within_bounds : List SourcePixel → Bool
-all_within_bounds [] = true
-all_within_bounds (c ∷ cs) = within_bounds c.0 && within_bounds c.1 && all_within_bounds cs
+abbrev pub all_within_bounds : List SourcePixel → Bool
+all_within_bounds cs = list_all (λ c. within_bounds c.0 && within_bounds c.1) cs
 
-abbrev pub entry_checks : Request → List ℕ → Photograph → List Check
+abbrev pub entry_checks : Request → List ℕ → Photograph → List (Check Refusal)
 entry_checks r ms p =
     photograph_checks r.width r.height p.stride (length p.bytes)
-    ++ check number.grid (good_grid (grid_of r.dim ms))
-    ∷ check number.scale (good_scale r.sx && good_scale r.sy)
-    ∷ check number.corner (all_within_bounds (source_corners r))
-    ∷ check number.lens (good_view r.view)
+    ++ check refusal.Grid (good_grid (grid_of r.dim ms))
+    ∷ check refusal.Scale (good_scale r.sx && good_scale r.sy)
+    ∷ check refusal.Corner (all_within_bounds (source_corners r))
+    ∷ check refusal.Lens (good_view r.view)
     ∷ []
 
-unfoldable pub entry : Request → List ℕ → Photograph → ℕ
+abbrev pub entry : Request → List ℕ → Photograph → Result (Unit {0}) Refusal
 entry r ms p = first (entry_checks r ms p)
 
 -- ---- what the steps are shown

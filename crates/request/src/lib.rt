@@ -7,14 +7,17 @@ ghost use Rattle.request.specs.Requests.{
   all_within_bounds,
   entry,
   good_scale,
-  photograph,
+  photograph as lent,
   plain,
+  scene_of,
   source_corners,
   within_bounds,
 };
 
 use consts::Settings;
-use footprint::View;
+use footprint::{Scene, View};
+use number::Refusal;
+use photograph::Photograph;
 use pixel::{SourcePixel, WorkingPixel};
 
 // All of a refinement but the pixels and the modules: the photograph's size, the label's side in modules, how many
@@ -38,18 +41,17 @@ impl Request {
     pub fn plain(self) -> Request
         ensures { result ≡ plain self }
     {
-        let corners = self.corners;
-        let settings = self.settings;
-        Request {
+        Request { view: None, ..self }
+    }
+
+    // What all samples of its run share.
+    pub fn scene(self) -> Scene
+        ensures { result ≡ scene_of self }
+    {
+        Scene {
             width: self.width,
             height: self.height,
-            dim: self.dim,
-            sx: self.sx,
-            sy: self.sy,
-            corners,
-            inverted: self.inverted,
-            view: View::Plain,
-            settings,
+            view: self.view,
         }
     }
 }
@@ -61,93 +63,50 @@ const MAX_COORDINATE: f64 = 1048576.0;
 pub fn source_corners(request: Request) -> [SourcePixel; 4]
     ensures { result ≡ source_corners request }
 {
-    let corners = request.corners;
-    let sx = request.sx;
-    let sy = request.sy;
-    [
-        corners[0].to_source(sx, sy),
-        corners[1].to_source(sx, sy),
-        corners[2].to_source(sx, sy),
-        corners[3].to_source(sx, sy),
-    ]
+    request
+        .corners
+        .map(|corner| corner.to_source(request.sx, request.sy))
 }
 
 // Whether a scale is finite and above 0.
 fn good_scale(s: f64) -> bool
     ensures { result ≡ good_scale s }
 {
-    if !ieee::is_finite(s) {
-        return false;
-    }
-    s > 0.0
-}
-
-// Whether both scales are finite and above 0.
-fn good_scales(sx: f64, sy: f64) -> bool
-    ensures { result ≡ (good_scale sx && good_scale sy) }
-{
-    if !good_scale(sx) {
-        return false;
-    }
-    good_scale(sy)
+    ieee::is_finite(s) && s > 0.0
 }
 
 // Whether a coordinate is finite and not too far out.
 fn within_bounds(x: f64) -> bool
     ensures { result ≡ within_bounds x }
 {
-    if !ieee::is_finite(x) {
-        return false;
-    }
-    !(ieee::abs(x) > MAX_COORDINATE)
-}
-
-// Whether both coordinates of a corner are.
-fn corner_within_bounds(corner: SourcePixel) -> bool
-    ensures { result ≡ (within_bounds corner.0 && within_bounds corner.1) }
-{
-    if !within_bounds(corner.0) {
-        return false;
-    }
-    within_bounds(corner.1)
+    ieee::is_finite(x) && !(ieee::abs(x) > MAX_COORDINATE)
 }
 
 // Whether all four corners are finite and not too far out.
 fn all_within_bounds(corners: [SourcePixel; 4]) -> bool
     ensures { result ≡ all_within_bounds corners }
 {
-    let mut i: usize = 0;
-    while i < 4 {
-        if !corner_within_bounds(corners[i]) {
-            return false;
-        }
-        i += 1;
-    }
-    true
+    corners.iter().all(|corner| within_bounds(corner.0) && within_bounds(corner.1))
 }
 
-// The number of the first entry check that fails, and 0 where none does.
-pub fn entry_number(bytes: &[u8], stride: u32, modules: &[u8], request: Request) -> u32
-    ensures { result ≡ entry request modules.now (photograph bytes.now stride) }
+// The entry checks: the first that fails refuses.
+pub fn entry(photograph: Photograph, modules: &[u8], request: Request) -> Result<(), Refusal>
+    ensures { result ≡ entry request modules.now (lent photograph.entry.bytes.now photograph.entry.stride) }
 {
-    let refusal = photograph::photograph_number(request.width, request.height, stride, bytes.len());
-    if refusal != number::ANSWER {
-        return refusal;
-    }
+    photograph.check(request.width, request.height)?;
     if !grid::good_grid(modules, request.dim) {
-        return number::GRID;
+        return Err(Refusal::Grid);
     }
-    if !good_scales(request.sx, request.sy) {
-        return number::SCALE;
+    if !(good_scale(request.sx) && good_scale(request.sy)) {
+        return Err(Refusal::Scale);
     }
     if !all_within_bounds(source_corners(request)) {
-        return number::CORNER;
+        return Err(Refusal::Corner);
     }
-    let view = request.view;
-    if !view.valid() {
-        return number::LENS;
+    if !footprint::good_view(request.view) {
+        return Err(Refusal::Lens);
     }
-    number::ANSWER
+    Ok(())
 }
 
 // How many bytes or modules lie in so many rows.

@@ -55,7 +55,7 @@ module _ (tail : List ℕ) where
   Back cs es fs = read_result (result_card (refined_of cs es fs) ++ tail) ≡ refined_of cs es fs
 
   pub read_back : (cs : List SourcePixel) (es : List EdgeStat) (fs : List Bool) → Four Fits cs → Four (Counted 255) es → length fs ≡ 4 → Back cs es fs
-  unfolding number_at float_at bytes_of float_bytes field corner_bytes stat_bytes flag_bytes result_card read_corner read_stat read_flag read_result
+  unfolding number_at bytes_of
   read_back cs es fs corners stats flags =
       by-four (λ fs. Back cs es fs)
       (λ w x y z.

@@ -15,34 +15,34 @@ use Rattle.fields.specs.Fields.{byte_at, float_at, float_bytes, field}
 
 -- ---- writing
 
-unfoldable pub corner_bytes : List SourcePixel → List ℕ
+abbrev pub corner_bytes : List SourcePixel → List ℕ
 corner_bytes [] = []
 corner_bytes (c ∷ cs) = float_bytes c.0 ++ float_bytes c.1 ++ corner_bytes cs
 
 -- one byte each
-unfoldable pub stat_bytes : List EdgeStat → List ℕ
+abbrev pub stat_bytes : List EdgeStat → List ℕ
 stat_bytes [] = []
 stat_bytes (e ∷ es) = e.points_probed % 256 ∷ e.points_fit % 256 ∷ e.dropped_outliers % 256 ∷ bit e.valid ∷ stat_bytes es
 
-unfoldable pub flag_bytes : List Bool → List ℕ
+abbrev pub flag_bytes : List Bool → List ℕ
 flag_bytes [] = []
 flag_bytes (f ∷ fs) = bit f ∷ flag_bytes fs
 
-unfoldable pub result_card : RefinedCorners → List ℕ
+abbrev pub result_card : RefinedCorners → List ℕ
 result_card r = field 16 (corner_bytes r.corners) ++ field 17 (stat_bytes r.edge_stats) ++ field 18 (flag_bytes r.corner_refined)
 
 -- ---- reading back: where the three fields of a result card lie is fixed
 
-unfoldable pub read_corner : List ℕ → ℕ → SourcePixel
+abbrev pub read_corner : List ℕ → ℕ → SourcePixel
 read_corner card i = source (float_at card (3 + 16 * i)) (float_at card (11 + 16 * i))
 
-unfoldable pub read_stat : List ℕ → ℕ → EdgeStat
+abbrev pub read_stat : List ℕ → ℕ → EdgeStat
 read_stat card i = stat (byte_at card (70 + 4 * i)) (byte_at card (71 + 4 * i)) (byte_at card (72 + 4 * i)) (eqb (byte_at card (73 + 4 * i)) 1)
 
-unfoldable pub read_flag : List ℕ → ℕ → Bool
+abbrev pub read_flag : List ℕ → ℕ → Bool
 read_flag card i = eqb (byte_at card (89 + i)) 1
 
-unfoldable pub read_result : List ℕ → RefinedCorners
+abbrev pub read_result : List ℕ → RefinedCorners
 read_result card = record {
   corners = four (λ i. read_corner card i);
   edge_stats = four (λ i. read_stat card i);
@@ -52,5 +52,5 @@ read_result card = record {
 -- ---- a buffer that a card is written to
 
 -- the card stands at its front, with what was behind it there; a buffer of under 93 bytes is left as it was
-unfoldable pub with_card : RefinedCorners → List ℕ → List ℕ
+abbrev pub with_card : RefinedCorners → List ℕ → List ℕ
 with_card r out = when leb 93 (length out) then result_card r ++ drop 93 out else out

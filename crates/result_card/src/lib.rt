@@ -1,141 +1,108 @@
 // The result card: three fields, of corners, counts and flags, written to the front of a buffer.
 #![tactic(auto)]
 
-ghost use Rattle.std.specs.Prelude.{◌≡◌, [], ◌∷◌, ◌++◌, ◌+◌, ◌≤◌, length, drop};
-ghost use Rattle.std.proofs.lemmas.List.Edits.{sets};
+ghost use Rattle.std.specs.Prelude.{◌≡◌, [], ◌∷◌, length};
 ghost use Rattle.fields.specs.Fields.{bytes_of, float_bytes};
+ghost use Rattle.fields.specs.Output.{Writes};
 ghost use Rattle.result_card.specs.ResultCard.{corner_bytes, stat_bytes, flag_bytes, result_card, with_card};
 
 use corners::RefinedCorners;
+use fields::Output;
 use fit::EdgeStat;
 use pixel::SourcePixel;
 
 // The length of a result card: three headers, four corners, four counts of four bytes, four flags.
 pub const RESULT_SIZE: usize = 93;
 
-// Writes v to the n bytes from `at` on.
-fn put_number(out: &mut [u8], at: usize, n: usize, v: u64)
-    requires { at + n ≤ length out.old }
-    ensures { out.new ≡ sets out.old at (bytes_of n v) }
+// Writes a float.
+fn put_float(out: &mut Output<'_>, x: f64)
+    ensures { Writes out.old out.new (float_bytes x) }
 {
-    let mut rest: u64 = v;
-    let mut k: usize = 0;
-    while k < n {
-        out[at + k] = (rest % 256) as u8;
-        rest = rest / 256;
-        k += 1;
+    out.put(&ieee::bits_of(x).to_le_bytes());
+}
+
+// Writes a field's tag, a number as on the card, and its length.
+fn put_header(out: &mut Output<'_>, tag: u8, size: u16)
+    ensures { Writes out.old out.new (tag ∷ bytes_of 2 size) }
+{
+    out.put(&[tag]);
+    out.put(&size.to_le_bytes());
+}
+
+// Writes a corner.
+fn put_corner(out: &mut Output<'_>, c: SourcePixel)
+    ensures { Writes out.old out.new (corner_bytes (c ∷ [])) }
+{
+    put_float(out, c.0);
+    put_float(out, c.1);
+}
+
+// Writes corners, one behind the other. Like the counts and the flags below in a loop of one line: a trait for what a
+// card holds would be longer than the three.
+fn put_corners(out: &mut Output<'_>, corners: &[SourcePixel])
+    ensures { Writes out.old out.new (corner_bytes corners.now) }
+{
+    for c in corners {
+        put_corner(out, *c);
     }
 }
 
-// Writes a float to the 8 bytes from `at` on.
-fn put_float(out: &mut [u8], at: usize, x: f64)
-    requires { at + 8 ≤ length out.old }
-    ensures { out.new ≡ sets out.old at (float_bytes x) }
+// Writes an edge's counts.
+fn put_stat(out: &mut Output<'_>, e: EdgeStat)
+    ensures { Writes out.old out.new (stat_bytes (e ∷ [])) }
 {
-    put_number(out, at, 8, ieee::bits_of(x));
+    out.put(&[
+        (e.points_probed % 256) as u8,
+        (e.points_fit % 256) as u8,
+        (e.dropped_outliers % 256) as u8,
+        u8::from(e.valid),
+    ]);
 }
 
-// Writes a bool to the byte at `at`, as 0 or 1.
-fn put_bit(out: &mut [u8], at: usize, b: bool)
-    requires { at + 1 ≤ length out.old }
-    ensures { out.new ≡ sets out.old at (flag_bytes (b ∷ [])) }
+// Writes the counts of edges, one behind the other.
+fn put_stats(out: &mut Output<'_>, stats: &[EdgeStat])
+    ensures { Writes out.old out.new (stat_bytes stats.now) }
 {
-    if b {
-        out[at] = 1;
-    } else {
-        out[at] = 0;
+    for e in stats {
+        put_stat(out, *e);
     }
 }
 
-// Writes a field's tag and length to the 3 bytes from `at` on.
-fn put_header(out: &mut [u8], at: usize, tag: u64, size: u64)
-    requires { at + 3 ≤ length out.old }
-    ensures { out.new ≡ sets out.old at (bytes_of 1 tag ++ bytes_of 2 size) }
+// Writes a flag, as 0 or 1.
+fn put_flag(out: &mut Output<'_>, flag: bool)
+    ensures { Writes out.old out.new (flag_bytes (flag ∷ [])) }
 {
-    put_number(out, at, 1, tag);
-    put_number(out, at + 1, 2, size);
+    out.put(&[u8::from(flag)]);
 }
 
-// Writes a corner to the 16 bytes from `at` on.
-fn put_corner(out: &mut [u8], at: usize, c: SourcePixel)
-    requires { at + 16 ≤ length out.old }
-    ensures { out.new ≡ sets out.old at (corner_bytes (c ∷ [])) }
+// Writes flags, one behind the other.
+fn put_flags(out: &mut Output<'_>, flags: &[bool])
+    ensures { Writes out.old out.new (flag_bytes flags.now) }
 {
-    put_float(out, at, c.0);
-    put_float(out, at + 8, c.1);
-}
-
-// Writes four corners to the 64 bytes from `at` on.
-fn put_corners(out: &mut [u8], at: usize, corners: [SourcePixel; 4])
-    requires { at + 64 ≤ length out.old }
-    ensures { out.new ≡ sets out.old at (corner_bytes corners) }
-{
-    let mut i: usize = 0;
-    while i < 4 {
-        let c = corners[i];
-        put_corner(out, at + 16 * i, c);
-        i += 1;
+    for flag in flags {
+        put_flag(out, *flag);
     }
 }
 
-// Writes an edge's counts to the 4 bytes from `at` on.
-fn put_stat(out: &mut [u8], at: usize, e: EdgeStat)
-    requires { at + 4 ≤ length out.old }
-    ensures { out.new ≡ sets out.old at (stat_bytes (e ∷ [])) }
+// Writes a result card.
+fn put_fields(out: &mut Output<'_>, r: RefinedCorners)
+    ensures card { Writes out.old out.new (result_card r) }
+    ensures len { length (result_card r) ≡ 93 }
 {
-    put_number(out, at, 1, e.points_probed as u64);
-    put_number(out, at + 1, 1, e.points_fit as u64);
-    put_number(out, at + 2, 1, e.dropped_outliers as u64);
-    put_bit(out, at + 3, e.valid);
-}
-
-// Writes the counts of four edges to the 16 bytes from `at` on.
-fn put_stats(out: &mut [u8], at: usize, stats: [EdgeStat; 4])
-    requires { at + 16 ≤ length out.old }
-    ensures { out.new ≡ sets out.old at (stat_bytes stats) }
-{
-    let mut i: usize = 0;
-    while i < 4 {
-        let e = stats[i];
-        put_stat(out, at + 4 * i, e);
-        i += 1;
-    }
-}
-
-// Writes four flags to the 4 bytes from `at` on.
-fn put_flags(out: &mut [u8], at: usize, flags: [bool; 4])
-    requires { at + 4 ≤ length out.old }
-    ensures { out.new ≡ sets out.old at (flag_bytes flags) }
-{
-    let mut i: usize = 0;
-    while i < 4 {
-        put_bit(out, at + i, flags[i]);
-        i += 1;
-    }
-}
-
-// Writes the result card to the front of a buffer that has room for it.
-fn put_fields(out: &mut [u8], r: RefinedCorners)
-    requires { 93 ≤ length out.old }
-    ensures { out.new ≡ result_card r ++ drop 93 out.old }
-{
-    let corners = r.corners;
-    let stats = r.edge_stats;
-    let flags = r.corner_refined;
-    put_header(out, 0, 16, 64);
-    put_corners(out, 3, corners);
-    put_header(out, 67, 17, 16);
-    put_stats(out, 70, stats);
-    put_header(out, 86, 18, 4);
-    put_flags(out, 89, flags);
+    put_header(out, 16, 64);
+    put_corners(out, &r.corners);
+    put_header(out, 17, 16);
+    put_stats(out, &r.edge_stats);
+    put_header(out, 18, 4);
+    put_flags(out, &r.corner_refined);
 }
 
 // Writes the result card to the front of a buffer; one of under 93 bytes is left as it was.
 pub fn put_result(out: &mut [u8], r: RefinedCorners)
     ensures { out.new ≡ with_card r out.old }
 {
-    if out.len() < RESULT_SIZE {
-        return;
+    if out.len() >= RESULT_SIZE {
+        let mut card = Output::new(out);
+        put_fields(&mut card, r);
     }
-    put_fields(out, r);
 }

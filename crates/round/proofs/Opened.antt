@@ -1,6 +1,6 @@
 -- The definitions of `round`, opened together: a proof that computes with them unfolds this one name. Assumes nothing.
-use Rattle.round.specs.Round.{unless_refused, edges_from, mapped_round, round}
+use Rattle.round.specs.Round.{edges_from, round}
 
 unfoldable pub opened : Unit {0}
-unfolding unless_refused edges_from mapped_round round
+unfolding edges_from round
 opened = tt

@@ -2,33 +2,17 @@
 #![tactic(auto)]
 
 ghost use Rattle.std.specs.Prelude.{◌≡◌, ◌<◌};
-ghost use Rattle.photograph.specs.Photographs.{photo};
-ghost use Rattle.sample_tree.specs.Run.{state, sampler, Runs};
+ghost use Rattle.sample_tree.specs.Samplers.{Samples};
 ghost use Rattle.edges.specs.Edges.{no_edges};
 ghost use Rattle.round.specs.Round.{edges_from, round, side_of};
 
 use corners::Answer;
-use edge::Task;
 use edges::Edges;
 use homography::PerspectiveTransform;
+use number::Refusal;
 use pixel::SourcePixel;
-use probe::Side;
-use quad::Mapped;
-use sample_tree::Meter;
-
-// The edges of a round, and what sampling carries along.
-#[derive(Clone, Copy)]
-pub struct EdgesRun {
-    pub edges: Edges,
-    pub meter: Meter,
-}
-
-// A round's end, and what sampling carries along.
-#[derive(Clone, Copy)]
-pub struct RoundResult {
-    pub answer: Answer,
-    pub meter: Meter,
-}
+use probe::{Plan, Side};
+use sample_tree::Sampler;
 
 // ---- the edges
 
@@ -45,68 +29,36 @@ fn side_of(map: PerspectiveTransform, q: [SourcePixel; 4], e: usize) -> Side
     }
 }
 
-// The four edges in turn, each from a corner to the next. The number of one ends them.
+// The four edges in turn, each from a corner to the next. The refusal of one ends them.
 fn fit_edges(
-    task: Task,
-    bytes: &[u8],
+    sampler: &mut Sampler,
+    plan: Plan,
     modules: &[u8],
-    sheet: &mut [u8],
-    copy: &mut [u8],
-    meter: Meter,
     map: PerspectiveTransform,
     q: [SourcePixel; 4],
-) -> EdgesRun
-    ensures { Runs (sampler task.scene (photo bytes.now task.stride))
-        (edges_from task.plan modules.now map q 4 0 no_edges) result.edges
-        (state sheet.old copy.old meter)
-        (state sheet.new copy.new result.meter) }
+) -> Result<Edges, Refusal>
+    ensures { Samples sampler.old sampler.new (edges_from plan modules.now map q 4 0 no_edges) result }
 {
     let mut edges = Edges::none();
-    let mut meter = meter;
-    let mut e: usize = 0;
-    while e < 4 {
-        let run = edge::refine_edge(task, bytes, modules, sheet, copy, meter, side_of(map, q, e));
-        let fit = run.fit;
+    for e in 0..4 {
+        let fit = edge::refine_edge(sampler, plan, modules, side_of(map, q, e))?;
         edges = edges.with(e, fit);
-        meter = run.meter;
-        if edges.number != number::ANSWER {
-            return EdgesRun { edges, meter };
-        }
-        e += 1;
     }
-    EdgesRun { edges, meter }
+    Ok(edges)
 }
 
 // ---- the round
 
 // One round from the corners q.
 pub fn refine_round(
-    task: Task,
-    bytes: &[u8],
+    sampler: &mut Sampler,
+    plan: Plan,
     modules: &[u8],
-    sheet: &mut [u8],
-    copy: &mut [u8],
-    meter: Meter,
     q: [SourcePixel; 4],
-) -> RoundResult
-    ensures { Runs (sampler task.scene (photo bytes.now task.stride))
-        (round task.plan modules.now q) result.answer
-        (state sheet.old copy.old meter)
-        (state sheet.new copy.new result.meter) }
+) -> Answer
+    ensures { Samples sampler.old sampler.new (round plan modules.now q) result }
 {
-    match quad::quad_map(q) {
-        Mapped::NoMap => RoundResult {
-            answer: corners::refused(number::QUAD),
-            meter,
-        },
-        Mapped::By(map) => {
-            let run = fit_edges(task, bytes, modules, sheet, copy, meter, map, q);
-            let edges = run.edges;
-            let meter = run.meter;
-            RoundResult {
-                answer: corners::round_end(q, edges),
-                meter,
-            }
-        }
-    }
+    let map = quad::square_to_quad(q)?;
+    let edges = fit_edges(sampler, plan, modules, map, q)?;
+    corners::round_end(q, edges)
 }

@@ -8,7 +8,8 @@ use mathlib.Core.List.{List, ◌++◌}
 use Rattle.prelude.proofs.Lists.{Each, each_both}
 use Rattle.photograph.specs.Photographs.{Photo, Pixel}
 use Rattle.footprint.specs.declared.Scene.{Scene}
-use Rattle.sampling.specs.declared.Sampled.{Sampled}
+use Rattle.std.specs.Prelude.{Option}
+use lib.Ieee.{Float}
 use Rattle.footprint.specs.Footprints.{scene_footprint}
 use Rattle.sampling.specs.Sampling.{pixels_read, interpolate}
 use Rattle.sampling.proofs.Interpolation.{Same, interpolate_same}
@@ -30,7 +31,7 @@ module _ (e : Scene) (p q : Photo) where
       let same : interpolate q at ≡ interpolate p at = interpolate_same p q at both.0 in
       let rest = alike (k (interpolate p at)) both.1 in
       record {
-        ends = ap (λ (z : Sampled). value e q (k z)) same ∙ rest.ends;
-        reading = ap (λ (z : Sampled). pixels_read at ++ reads e q (k z)) same ∙ ap (λ (r : List Pixel). pixels_read at ++ r) rest.reading;
-        count = ap (λ (z : Sampled). suc (sample_count e q (k z))) same ∙ ap suc rest.count;
+        ends = ap (λ (z : Option Float). value e q (k z)) same ∙ rest.ends;
+        reading = ap (λ (z : Option Float). pixels_read at ++ reads e q (k z)) same ∙ ap (λ (r : List Pixel). pixels_read at ++ r) rest.reading;
+        count = ap (λ (z : Option Float). suc (sample_count e q (k z))) same ∙ ap suc rest.count;
       }

@@ -17,7 +17,8 @@ use Rattle.photograph.proofs.Bytes.{Bytes}
 use Rattle.photograph.proofs.Photographs.{Sized}
 use Rattle.footprint.specs.declared.Scene.{Scene}
 use Rattle.footprint.specs.Footprints.{scene_footprint}
-use Rattle.sampling.specs.declared.Sampled.{Sampled}
+use Rattle.std.specs.Prelude.{Option}
+use lib.Ieee.{Float}
 use Rattle.sampling.specs.Sampling.{pixels_read, interpolate}
 use Rattle.sampling.proofs.AllFour.{scene_same, scene_part}
 use Rattle.sample_tree.specs.SampleTree.{SampleTree, done, sample, value, reads}
@@ -49,7 +50,7 @@ module _ (e : Scene) (size : Sized e.width e.height) (p : Photo) (bytes : Bytes 
   same_end : {A : Type 0} (t : SampleTree A) → value e p t ≡ value_of_four e p t
   unfolding value value_of_four
   same_end (done a) = refl
-  same_end (sample q k) = same_end (k (interpolate p (scene_footprint e q))) ∙ ap (λ (s : Sampled). value_of_four e p (k s)) (same_sample q)
+  same_end (sample q k) = same_end (k (interpolate p (scene_footprint e q))) ∙ ap (λ (s : Option Float). value_of_four e p (k s)) (same_sample q)
 
   part : {A : Type 0} (P : Pixel → Type 0) (t : SampleTree A) → Each P (reads_of_four e p t) → Each P (reads e p t)
   unfolding reads reads_of_four
@@ -58,7 +59,7 @@ module _ (e : Scene) (size : Sized e.width e.height) (p : Photo) (bytes : Bytes 
       let both = each_both P (pixels_read (four_footprint e q)) (reads_of_four e p (k (interpolate p (four_footprint e q)))) r in
       each_append P (pixels_read (scene_footprint e q)) (reads e p (k (interpolate p (scene_footprint e q))))
       (scene_part e (omega arith) (omega arith) q P both.0)
-      (part P (k (interpolate p (scene_footprint e q))) (subst (λ (s : Sampled). Each P (reads_of_four e p (k s))) (sym (same_sample q)) both.1))
+      (part P (k (interpolate p (scene_footprint e q))) (subst (λ (s : Option Float). Each P (reads_of_four e p (k s))) (sym (same_sample q)) both.1))
 
   module _ {A : Type 0} (t : SampleTree A) where
     in_part : (x y : ℕ) → T (is_read x y (reads e p t)) → T (is_read x y (reads_of_four e p t))

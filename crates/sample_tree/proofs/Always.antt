@@ -3,14 +3,15 @@
 use Rattle.pixel.specs.declared.SourcePixel.{SourcePixel}
 use Rattle.photograph.specs.Photographs.{Photo}
 use Rattle.footprint.specs.declared.Scene.{Scene}
-use Rattle.sampling.specs.declared.Sampled.{Sampled}
+use Rattle.std.specs.Prelude.{Option}
+use lib.Ieee.{Float}
 use Rattle.footprint.specs.Footprints.{scene_footprint}
 use Rattle.sampling.specs.Sampling.{interpolate}
 use Rattle.sample_tree.specs.SampleTree.{SampleTree, done, sample, ◌>>=◌, value}
 
 pub data Always {A : Type 0} (P : A → Type 0) : SampleTree A → Type 0 where
   ends : {a : A} → P a → Always P (done a)
-  asks : {q : SourcePixel} {k : Sampled → SampleTree A} → ((r : Sampled) → Always P (k r)) → Always P (sample q k)
+  asks : {q : SourcePixel} {k : Option Float → SampleTree A} → ((r : Option Float) → Always P (k r)) → Always P (sample q k)
 
 -- over any photograph
 pub always_value : {A : Type 0} {P : A → Type 0} (e : Scene) (p : Photo) {t : SampleTree A} → Always P t → P (value e p t)

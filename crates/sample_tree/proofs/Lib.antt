@@ -1,6 +1,7 @@
 -- What holds of every tree of samples, and of every function that runs one.
 pub mod Counts
 pub mod Steps
+pub mod Samplers
 pub mod Simulation
 pub mod Always
 pub mod Agreement

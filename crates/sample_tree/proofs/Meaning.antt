@@ -1,7 +1,7 @@
 -- What a run by the refinement's sampler comes to, for every step: its answer is the step's value, its meter counts the samples taken, and from a cleared sheet and a cleared
 -- copy it leaves the sheet and the copy of what the step reads. By induction on the tree. Assumes nothing.
 use mathlib.Core.Path.{◌≡◌, refl, sym, ap, ◌∙◌, subst}
-use Prim.Native.Nat.{ℕ, suc, ◌+◌, ◌*◌, ◌≤◌, ◌<◌}
+use Prim.Native.Nat.{ℕ, ◌+◌, ◌*◌, ◌≤◌, ◌<◌}
 use native.Mathlib.Nat.{le_trans}
 use mathlib.Core.Bool.{Bool, true, false}
 use mathlib.Core.List.{List, ◌++◌}
@@ -13,7 +13,7 @@ use Rattle.prelude.specs.Prelude.{when◌then◌else◌}
 use Rattle.photograph.specs.Photographs.{Photo}
 use Rattle.footprint.specs.Footprints.{scene_footprint}
 use Rattle.sampling.specs.Sampling.{cell_of, pixels_read, interpolate}
-use Rattle.sampling.specs.Marks.{Buffers, buffers, written, ones, reach, cell_marked, marked}
+use Rattle.sampling.specs.Marks.{Buffers, buffers, written, ones, reach, marked}
 use Rattle.sampling.specs.declared.CellBytes.{CellBytes}
 use Rattle.footprint.specs.declared.Scene.{Scene}
 use Rattle.footprint.specs.declared.Footprint.{Footprint}
@@ -44,11 +44,10 @@ module _ {A : Type 0} (e : Scene) (p : Photo) where
 
 -- no buffer grows or shrinks
 length-written : (w x0 y0 x1 y1 : ℕ) (v : CellBytes) (s : List ℕ) → length (written w x0 y0 x1 y1 v s) ≡ length s
-unfolding written
 length-written w x0 y0 x1 y1 v s = simp length-set
 
 marked_long : (p : Photo) (w : ℕ) (at : Footprint) (b : Buffers) → (length (marked p w at b).sheet ≡ length b.sheet) × (length (marked p w at b).copy ≡ length b.copy)
-unfolding marked cell_marked
+unfolding marked
 marked_long p w Rejected b = (refl, refl)
 marked_long p w (Border v) b = (refl, refl)
 marked_long p w (Cell x0 y0 x1 y1 fx fy) b = go (reach (y1 * w + x1) b)
@@ -73,7 +72,7 @@ run_long e p (sample q k) s =
 -- four pixels of the picture, in buffers of width × height bytes or more
 marked_all : (p : Photo) (w h : ℕ) (at : Footprint) (s c : List ℕ) → Each (Inside w h) (pixels_read at) → w * h ≤ length s → w * h ≤ length c
     → marked p w at (buffers s c) ≡ buffers (pasted white w (pixels_read at) s) (pasted p w (pixels_read at) c)
-unfolding marked pixels_read pasted cell_marked written
+unfolding marked pixels_read pasted
 marked_all p w h Rejected s c ins hs hc = refl
 marked_all p w h (Border v) s c ins hs hc = refl
 marked_all p w h (Cell x0 y0 x1 y1 fx fy) s c ins hs hc =

@@ -2,8 +2,8 @@
 -- each is written as 1; bytes past width × height stay as they were. Why: a pixel of the picture has a place of its own below width × height, so what is written there
 -- says nothing of any other pixel. Assumes nothing.
 use mathlib.Core.Path.{◌≡◌, refl, sym, ap, ◌∙◌, subst}
-use Prim.Native.Nat.{ℕ, zero, suc, ◌+◌, ◌*◌, ◌/◌, ◌%◌, ◌≤◌, ◌<◌, suc-le-suc}
-use native.Mathlib.Nat.{not-suc-le-zero, le_of_suc-le-suc, zero-lt-suc, mod-lt, div-lt_iff_lt-mul, mul_comm, le_trans, div-add-mod', le_refl}
+use Prim.Native.Nat.{ℕ, ◌+◌, ◌*◌, ◌/◌, ◌%◌, ◌≤◌, ◌<◌}
+use native.Mathlib.Nat.{mod-lt, div-lt_iff_lt-mul, mul_comm, le_trans, div-add-mod', le_refl}
 use mathlib.Core.Bool.{Bool, true, false, ◌&&◌, ◌||◌, true≢false}
 use mathlib.Core.List.{List, [], ◌∷◌, ◌++◌}
 use lib.Dec.{T, eqb, eqb_refl}
@@ -14,7 +14,7 @@ use borrow.Author.Tests.{eqb-true, eqb-false}
 use Rattle.prelude.proofs.Tests.{or_left, or_right, and_both}
 use Rattle.prelude.proofs.Tables.{length-table, getD_table, table_ext}
 use Rattle.prelude.proofs.Lists.{Each}
-use Rattle.prelude.specs.Prelude.{when◌then◌else◌, bit, table}
+use Rattle.prelude.specs.Prelude.{when◌then◌else◌, bit}
 use Rattle.photograph.specs.Photographs.{Photo, Pixel, pixel}
 use Rattle.pixel.proofs.Places.{place-lt}
 use Rattle.photograph.proofs.Pixels.{Inside, place-column, place-row}

@@ -4,7 +4,8 @@ use mathlib.Core.Path.{◌≡◌, refl, sym, ap, ◌∙◌}
 use Rattle.photograph.specs.Photographs.{Photo}
 use Rattle.footprint.specs.declared.Scene.{Scene}
 use Rattle.pixel.specs.declared.SourcePixel.{SourcePixel}
-use Rattle.sampling.specs.declared.Sampled.{Sampled}
+use Rattle.std.specs.Prelude.{Option}
+use lib.Ieee.{Float}
 use Rattle.footprint.specs.Footprints.{scene_footprint}
 use Rattle.sampling.specs.Marks.{Buffers, ReadsSample}
 use Rattle.sample_tree.specs.declared.Meter.{Meter}
@@ -46,12 +47,12 @@ module _ {S A B : Type 0} (ask : Sampler S) where
 
 module _ {S A : Type 0} (ask : Sampler S) where
   -- a sample was taken
-  pub sampled : (q : SourcePixel) (k : Sampled → SampleTree A) {r : Sampled} {s s' : S} → Runs ask (one_sample q) r s s' → Leads ask (sample q k) s (k r) s'
+  pub sampled : (q : SourcePixel) (k : Option Float → SampleTree A) {r : Option Float} {s s' : S} → Runs ask (one_sample q) r s s' → Leads ask (sample q k) s (k r) s'
   unfolding ◌>>=◌
   sampled q k h = called ask (one_sample q) k h
 
 -- the refinement's sampler: what it shows, marks and copies, and one more that is counted
-pub shown : (e : Scene) (p : Photo) (q : SourcePixel) {r : Sampled} {b b' : Buffers} {m m' : Meter} → ReadsSample p e.width (scene_footprint e q) r b b' → m' ≡ increment m
+pub shown : (e : Scene) (p : Photo) (q : SourcePixel) {r : Option Float} {b b' : Buffers} {m m' : Meter} → ReadsSample p e.width (scene_footprint e q) r b b' → m' ≡ increment m
     → Runs (sampler e p) (one_sample q) r (state b.sheet b.copy m) (state b'.sheet b'.copy m')
 unfolding run sampler
 shown e p q h hm = record { runs = sym (rw (h.answer, h.marks, hm)) }

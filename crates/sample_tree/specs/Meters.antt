@@ -4,7 +4,7 @@ use Rattle.prelude.specs.Prelude.{when◌then◌else◌}
 use Rattle.sample_tree.specs.declared.Meter.{Meter}
 
 -- one more sample; at the highest number that 64 bits hold the count stays
-unfoldable pub increment : Meter → Meter
+abbrev pub increment : Meter → Meter
 increment m = when ltb m.tried 18446744073709551615 then record { tried = m.tried + 1 } else m
 
 -- n more samples

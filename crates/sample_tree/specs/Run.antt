@@ -3,14 +3,13 @@
 -- with the marks. And what a function that samples promises, whatever the sampler. Definitions only,
 -- to be believed; the laws are in proofs/Steps, and what a run by the refinement's sampler comes to
 -- is in proofs/Meaning.
-use Rattle.std.specs.Prelude.{◌≡◌, ℕ, List}
+use Rattle.std.specs.Prelude.{◌≡◌, ℕ, List, Float, Option}
 use Rattle.pixel.specs.declared.SourcePixel.{SourcePixel}
 use Rattle.photograph.specs.Photographs.{Photo}
 use Rattle.footprint.specs.Footprints.{scene_footprint}
 use Rattle.sampling.specs.Sampling.{interpolate}
 use Rattle.sampling.specs.Marks.{Buffers, buffers, marked}
 use Rattle.footprint.specs.declared.Scene.{Scene}
-use Rattle.sampling.specs.declared.Sampled.{Sampled}
 use Rattle.sample_tree.specs.declared.Meter.{Meter}
 use Rattle.sample_tree.specs.Meters.{increment}
 use Rattle.sample_tree.specs.SampleTree.{SampleTree, done, sample}
@@ -23,7 +22,7 @@ abbrev pub ran : {S A : Type 0} → A → S → Ran S A
 ran a s = record { answer = a; state = s }
 
 abbrev pub Sampler : Type 0 → Type 0
-Sampler S = SourcePixel → S → Ran S Sampled
+Sampler S = SourcePixel → S → Ran S (Option Float)
 
 unfoldable pub run : {S A : Type 0} → Sampler S → SampleTree A → S → Ran S A
 run ask (done a) s = ran a s

@@ -2,17 +2,16 @@
 -- `SampleTree A` is such a step that ends in an A: a tree that asks for samples, one after another.
 -- No photograph stands in it. Over a photograph it has a value, it reads pixels, and it takes a
 -- number of samples. Definitions only, to be believed; what holds of every tree is in proofs/.
-use Rattle.std.specs.Prelude.{ℕ, suc, List, [], ◌++◌}
+use Rattle.std.specs.Prelude.{ℕ, suc, List, [], ◌++◌, Float, Option}
 use Rattle.pixel.specs.declared.SourcePixel.{SourcePixel}
 use Rattle.photograph.specs.Photographs.{Photo, Pixel}
 use Rattle.footprint.specs.declared.Scene.{Scene}
-use Rattle.sampling.specs.declared.Sampled.{Sampled}
 use Rattle.footprint.specs.Footprints.{scene_footprint}
 use Rattle.sampling.specs.Sampling.{pixels_read, interpolate}
 
 pub data SampleTree (A : Type 0) : Type 0 where
   done : A → SampleTree A
-  sample : SourcePixel → (Sampled → SampleTree A) → SampleTree A
+  sample : SourcePixel → (Option Float → SampleTree A) → SampleTree A
 
 -- one step, and then another that depends on what the first ended in
 infixl 20 ◌>>=◌
@@ -21,7 +20,7 @@ done a >>= f = f a
 sample q k >>= f = sample q (λ r. k r >>= f)
 
 -- one sample
-abbrev pub one_sample : SourcePixel → SampleTree Sampled
+abbrev pub one_sample : SourcePixel → SampleTree (Option Float)
 one_sample q = sample q (λ s. done s)
 
 -- ---- over a photograph

@@ -2,25 +2,28 @@
 #![tactic(auto)]
 
 ghost use Rattle.std.specs.Prelude.{◌≡◌};
-ghost use Rattle.photograph.specs.Photographs.{photo};
 ghost use Rattle.sample_tree.specs.Meters.{increment};
 ghost use Rattle.sample_tree.specs.SampleTree.{one_sample};
-ghost use Rattle.sample_tree.specs.Run.{state, sampler, Runs};
+ghost use Rattle.sample_tree.specs.Samplers.{Samples};
 
 use footprint::Scene;
+use photograph::Photograph;
 use pixel::SourcePixel;
-use sampling::Sampled;
 
-// What sampling carries along: how many samples were tried.
+// What sampling counts: how many samples were tried.
 #[derive(Clone, Copy)]
 pub struct Meter {
     pub tried: u64,
 }
 
-// What a sample shows, and what sampling carries along.
-#[derive(Clone, Copy)]
-pub struct SampleResult {
-    pub sampled: Sampled,
+// What a run samples by: the photograph and how it is seen; the sheet and the copy that are marked, where two empty
+// ones stand for none; and the count.
+#[derive(Drop)]
+pub struct Sampler<'a> {
+    pub photograph: Photograph<'a>,
+    pub scene: Scene,
+    pub sheet: &'a mut [u8],
+    pub copy: &'a mut [u8],
     pub meter: Meter,
 }
 
@@ -29,33 +32,19 @@ impl Meter {
     pub fn incremented(self) -> Meter
         ensures { result ≡ increment self }
     {
-        if self.tried < 18446744073709551615 {
-            return Meter {
-                tried: self.tried + 1,
-            };
+        Meter {
+            tried: self.tried.saturating_add(1),
         }
-        self
     }
 }
 
-// A sample in a scene, its pixels marked and copied.
-pub fn sample_source(
-    bytes: &[u8],
-    stride: u32,
-    scene: Scene,
-    sheet: &mut [u8],
-    copy: &mut [u8],
-    meter: Meter,
-    p: SourcePixel,
-) -> SampleResult
-    ensures { Runs (sampler scene (photo bytes.now stride)) (one_sample p) result.sampled
-        (state sheet.old copy.old meter)
-        (state sheet.new copy.new result.meter) }
-{
-    let sampled = sampling::sample_at(bytes, stride, scene, sheet, copy, p);
-    let counted = meter.incremented();
-    SampleResult {
-        sampled,
-        meter: counted,
+impl<'a> Sampler<'a> {
+    // A sample in the scene, its pixels marked and copied.
+    pub fn sample(&mut self, p: SourcePixel) -> Option<f64>
+        ensures { Samples self.old self.new (one_sample p) result }
+    {
+        let shown = sampling::sample_at(self.photograph, self.scene, self.sheet, self.copy, p);
+        self.meter = self.meter.incremented();
+        shown
     }
 }

@@ -22,7 +22,7 @@ use Rattle.footprint.specs.declared.Scene.{Scene}
 use Rattle.footprint.specs.AllFour.{all_four}
 use Rattle.footprint.specs.Footprints.{neighbour, interior_cell, footprint, scene_footprint}
 use Rattle.footprint.proofs.Weights.{Weighed, footprint_weighed, viewed_weighed}
-use Rattle.sampling.specs.declared.Sampled.TheVariants.{Luma}
+use Rattle.std.specs.Prelude.{Some}
 use Rattle.sampling.specs.Sampling.{cell_pixels, pixels_read, bilinear, interpolate}
 
 -- ---- a row of two bytes
@@ -54,12 +54,10 @@ module _ (a b : ℕ) (ha : a < 256) (hb : b < 256) (f : Float) where
 module _ (a b c d : ℕ) (ha : a < 256) (hb : b < 256) (hc : c < 256) (hd : d < 256) (fx fy : Float) where
   -- with no weight for the right column they show the left one
   left-column : (fx ≐ f0) ≡ true → bilinear a b c d fx fy ≡ float a ⊕ (float c ⊖ float a) ⊗ fy
-  unfolding bilinear
   left-column z = rw (row-left a b ha hb fx z, row-left c d hc hd fx z)
 
   -- with none for the lower row the upper one
   upper_row : Within (2 ^ 33) fx → (fy ≐ f0) ≡ true → bilinear a b c d fx fy ≡ row a b fx
-  unfolding bilinear
   upper_row small z =
       stays (2 ^ 43) (2 ^ 43) (row a b fx) (row c d fx) fy (omega arith) (add-fits binary64 (float a) ((float b ⊖ float a) ⊗ fx))
       (row_within a b ha hb fx small) (row_within c d hc hd fx small) (row-no_minus_zero a b ha hb fx small) z
@@ -92,18 +90,18 @@ module _ (p : Photo) (bytes : Bytes p) (x0 y0 : ℕ) (fx fy : Float) where
       by false z e = ap (λ (y : ℕ). blend x1 y) e
 
 weighed_same : (w h : ℕ) (p : Photo) → Bytes p → (at : Footprint) → Weighed w h at → interpolate p at ≡ interpolate p (all_four w h at)
-unfolding Weighed neighbour all_four interpolate
+unfolding Weighed all_four interpolate
 weighed_same w h p bytes Rejected e = refl
 weighed_same w h p bytes (Border v) e = refl
 weighed_same w h p bytes (Cell x0 y0 x1 y1 fx fy) e =
     let x2 = min (x0 + 1) (w - 1) in
     let y2 = min (y0 + 1) (h - 1) in
-    ap Luma (same_columns p bytes x0 y0 fx fy x1 x2 y1 e.0 ∙ same_rows p bytes x0 y0 fx fy x2 y1 y2 e.2 e.1)
+    ap Some (same_columns p bytes x0 y0 fx fy x1 x2 y1 e.0 ∙ same_rows p bytes x0 y0 fx fy x2 y1 y2 e.2 e.1)
 
 -- ---- the pixels that it reads are among the four
 
 weighed_part : (w h : ℕ) (at : Footprint) → Weighed w h at → (P : Pixel → Type 0) → Each P (pixels_read (all_four w h at)) → Each P (pixels_read at)
-unfolding Weighed neighbour all_four pixels_read
+unfolding Weighed all_four pixels_read
 weighed_part w h Rejected e P r = tt
 weighed_part w h (Border v) e P r = tt
 weighed_part w h (Cell x0 y0 x1 y1 fx fy) e P r = by (fx ≐ f0) (fy ≐ f0) e.0 e.1
@@ -116,11 +114,11 @@ weighed_part w h (Cell x0 y0 x1 y1 fx fy) e P r = by (fx ≐ f0) (fy ≐ f0) e.0
 
 -- where the x fraction is 0 they are of one column, and where the y fraction is of one row
 pub one-column : (w h : ℕ) (x y : Float) → ((x ⊖ float (whole_part x)) ≐ f0) ≡ true → Each (λ c. c.column ≡ whole_part x) (pixels_read (interior_cell w h x y))
-unfolding pixels_read interior_cell neighbour
+unfolding pixels_read
 one-column w h x y z = (refl, (rw (z, neighbour), (refl, (rw (z, neighbour), tt))))
 
 pub one-row : (w h : ℕ) (x y : Float) → ((y ⊖ float (whole_part y)) ≐ f0) ≡ true → Each (λ c. c.row ≡ whole_part y) (pixels_read (interior_cell w h x y))
-unfolding pixels_read interior_cell neighbour
+unfolding pixels_read
 one-row w h x y z = (refl, (refl, (rw (z, neighbour), (rw (z, neighbour), tt))))
 
 -- ---- a sample, under every border mode, and behind every camera

@@ -15,7 +15,7 @@ use Rattle.photograph.proofs.Photographs.{Sized}
 use Rattle.footprint.proofs.Cuts.{Cut, footprint_cut, viewed_cut}
 
 pub cut_ordered : (w h : ℕ) (at : Footprint) → Cut w h at → Ordered at
-unfolding Cut Ordered
+unfolding Cut
 cut_ordered w h Rejected c = tt
 cut_ordered w h (Border v) c = tt
 cut_ordered w h (Cell x0 y0 x1 y1 fx fy) c = (c.0, c.1)

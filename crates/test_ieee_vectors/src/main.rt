@@ -3,43 +3,22 @@
 // of the larger of it and the value of the line before; whether it is finite; its whole part.
 #![tactic(auto)]
 
-// A byte as a number of 64 bits.
-fn wide(c: u8) -> u64 {
-    c as u64
-}
+use test_io::print_number;
 
-// The value of a digit in small letters. The list has no other character.
+// The value of a digit. The list has no other character.
 fn digit(c: u8) -> u64 {
-    if c < b'0' {
-        return 0;
-    }
-    if c < b'a' {
-        return wide(c - b'0');
-    }
-    wide(c - b'a' + 10)
+    (c as char).to_digit(16).unwrap_or(0) as u64
 }
 
-// The number that the 16 digits of a line say.
-fn number(line: &[u8; 17]) -> u64 {
-    let mut n: u64 = 0;
-    let mut i: usize = 0;
-    while i < 16 {
-        n = (n << 4) | digit(line[i]);
-        i += 1;
-    }
-    n
+// The number that digits say.
+fn number(digits: &[u8]) -> u64 {
+    digits.iter().fold(0, |n: u64, c| (n << 4) | digit(*c))
 }
 
 // A value's bit pattern, printed.
 fn print_bits(x: f64) {
     io::write_all(1, b" ");
     io::print_hex(1, ieee::bits_of(x), 16);
-}
-
-// A number, printed.
-fn print_number(n: u64) {
-    io::write_all(1, b" ");
-    io::print_decimal(1, n);
 }
 
 // What each function makes of a value, printed on one line.
@@ -52,30 +31,26 @@ fn print_answers(before: f64, b: u64) {
     print_bits(ieee_whole::ceil(x));
     print_bits(ieee::abs(x));
     print_bits(ieee::max(before, x));
-    print_number(if ieee::is_finite(x) { 1 } else { 0 });
+    print_number(u64::from(ieee::is_finite(x)));
     print_number(ieee_whole::whole_part(x) as u64);
     io::write_all(1, b"\n");
 }
 
-// Reads a line and prints its answers; false where the list has ended. `before` is the pattern of
-// the line before, and becomes that of this one.
-fn next_line(before: &mut u64) -> bool {
+// The pattern of the next line; none where the list has ended.
+fn next_pattern() -> Option<u64> {
     let mut line = [0u8; 17];
-    let n = io::read_full(0, &mut line);
-    if n < 17 {
-        return false;
+    if io::read_full(0, &mut line) < 17 {
+        return None;
     }
-    let b = number(&line);
-    print_answers(ieee::from_bits(*before), b);
-    *before = b;
-    true
+    Some(number(&line[..16]))
 }
 
-// Nothing says that the input ends, so the lines are counted down from a number that no list has.
+// Nothing says that the input ends, so the lines are counted to a number that no list has.
 fn main() {
-    let mut before: u64 = 0;
-    let mut left = u64::MAX;
-    while left > 0 && next_line(&mut before) {
-        left -= 1;
+    let mut before: f64 = 0.0;
+    for _line in 0..u64::MAX {
+        let Some(b) = next_pattern() else { break };
+        print_answers(before, b);
+        before = ieee::from_bits(b);
     }
 }

@@ -5,9 +5,11 @@
 mod bytes; // bytes.rt: bytes by their places
 mod others; // others.rt: cards over other photographs
 
-use bytes::{count_ones, digest, first_one, front, get, is_poison, poison_all, put, same};
+use bytes::{count_ones, digest, front, is_poison, poison_all};
 use corners::Answer;
+use number::Refusal;
 use others::{HEAD, over_copy, over_others, shape_of};
+use test_io::{MANY, next_card, print_number};
 
 // The poison of runs that are asked what they left of it.
 const POISON: u8 = 17;
@@ -22,17 +24,7 @@ struct Same {
 
 // A truth value as 0 or 1, printed.
 fn print_bit(b: bool) {
-    if b {
-        io::write_all(1, b" 1");
-    } else {
-        io::write_all(1, b" 0");
-    }
-}
-
-// A number, printed.
-fn print_number(n: u64) {
-    io::write_all(1, b" ");
-    io::print_decimal(1, n);
+    print_number(u64::from(b));
 }
 
 // The digest of some bytes, printed.
@@ -81,29 +73,27 @@ fn again(card: &[u8], text: &[u8], sheet: &[u8], copy: &[u8], seed: u8) -> Same 
     let answer = run_on_poison(card, sheet_again, copy_again, seed);
     let end = report::answer_lines(answer, &mut text_again);
     Same {
-        answer: same(text, &text_again[..end]),
-        sheet: same(sheet, front(sheet_again, sheet.len())),
-        copy: same(copy, front(copy_again, copy.len())),
+        answer: text == &text_again[..end],
+        sheet: sheet == front(sheet_again, sheet.len()),
+        copy: copy == front(copy_again, copy.len()),
     }
 }
 
 // Whether anything differs between two runs.
 fn differs(s: Same) -> bool {
-    if !s.sheet {
-        return true;
-    }
-    !s.copy
+    !s.sheet || !s.copy
 }
 
 // Over the blanked copy with one marked pixel changed, sheet or copy must differ.
 fn print_changed(card: &[u8], text: &[u8], sheet: &[u8], copy: &[u8], other: &mut [u8]) {
-    let i = first_one(sheet);
-    if i == sheet.len() {
+    let Some(i) = sheet.iter().position(|mark| *mark == 1) else {
         io::write_all(1, b"changed none\n");
         return;
-    }
+    };
     let end = over_copy(other, card, copy);
-    put(other, HEAD, i, 255 - get(other, HEAD, i));
+    if let Some(byte) = other.get_mut(HEAD + i) {
+        *byte = 255 - *byte;
+    }
     let s = again(front(other, end), text, sheet, copy, 3);
     io::write_all(1, b"changed");
     print_bit(differs(s));
@@ -114,7 +104,7 @@ fn print_changed(card: &[u8], text: &[u8], sheet: &[u8], copy: &[u8], other: &mu
 fn run_short(card: &[u8], sheet: &mut [u8], copy: &mut [u8]) {
     let answer = run_on_poison(card, sheet, copy, POISON);
     io::write_all(1, b"short");
-    print_number(answer.number as u64);
+    print_number(number::number_of(&answer) as u64);
     print_left(sheet, copy, 0);
 }
 
@@ -124,17 +114,10 @@ fn run_both_short(card: &[u8], n: usize) {
     let mut copy_space = io::large_buffer();
     let sheet: &mut [u8] = &mut sheet_space;
     let copy: &mut [u8] = &mut copy_space;
-    if n < 1 {
-        return;
+    if 1 <= n && n <= sheet.len() && n <= copy.len() {
+        run_short(card, &mut sheet[..n - 1], &mut copy[..n]);
+        run_short(card, &mut sheet[..n], &mut copy[..n - 1]);
     }
-    if n > sheet.len() {
-        return;
-    }
-    if n > copy.len() {
-        return;
-    }
-    run_short(card, &mut sheet[..n - 1], &mut copy[..n]);
-    run_short(card, &mut sheet[..n], &mut copy[..n - 1]);
 }
 
 // The runs over other photographs.
@@ -150,21 +133,18 @@ fn run_others(card: &[u8], text: &[u8], sheet: &[u8], copy: &[u8]) {
     print_changed(card, text, sheet, copy, other);
 }
 
-// Whether a run that ends in this number writes nothing.
-fn writes_nothing(number: u32) -> bool {
-    if number == number::ANSWER {
-        return false;
+// Whether a run that ends so writes nothing.
+fn writes_nothing(answer: Answer) -> bool {
+    match answer {
+        Ok(_) => false,
+        Err(refusal) => u32::from(refusal) <= u32::from(Refusal::Sheet) || refusal == Refusal::Card,
     }
-    if number <= number::SHEET {
-        return true;
-    }
-    number == number::CARD
 }
 
 // What a run left, and where it wrote, the runs over other photographs.
-fn print_run(card: &[u8], number: u32, text: &[u8], sheet: &[u8], copy: &[u8]) {
+fn print_run(card: &[u8], answer: Answer, text: &[u8], sheet: &[u8], copy: &[u8]) {
     io::write_all(1, text);
-    if writes_nothing(number) {
+    if writes_nothing(answer) {
         io::write_all(1, b"nothing");
         print_left(sheet, copy, 0);
         return;
@@ -181,17 +161,11 @@ fn run(card: &[u8], sheet: &mut [u8], copy: &mut [u8]) {
     let mut text = [0u8; 1024];
     let answer = run_on_poison(card, sheet, copy, POISON);
     let end = report::answer_lines(answer, &mut text);
-    print_run(card, answer.number, &text[..end], sheet, copy);
+    print_run(card, answer, &text[..end], sheet, copy);
 }
 
-// A card's length by the three bytes before it.
-fn size_of(head: &[u8; 3]) -> usize {
-    fields::number_at(head, 0, 3) as usize
-}
-
-// Reads a card and runs it.
-fn run_next(index: u64, card: &mut [u8]) {
-    io::read_full(0, card);
+// A card, run.
+fn run_next(index: u64, card: &[u8]) {
     io::write_all(1, b"card");
     print_number(index);
     io::write_all(1, b"\n");
@@ -200,25 +174,13 @@ fn run_next(index: u64, card: &mut [u8]) {
     run(card, &mut sheet, &mut copy);
 }
 
-// The next card; false where the list has ended.
-fn next_card(index: u64, space: &mut [u8]) -> bool {
-    let mut head = [0u8; 3];
-    if io::read_full(0, &mut head) < 3 {
-        return false;
-    }
-    let n = size_of(&head);
-    if n > space.len() {
-        return false;
-    }
-    run_next(index, &mut space[..n]);
-    true
-}
-
 // Nothing says that the input ends, so the cards are counted to a number that no list has.
 fn main() {
     let mut buffer = io::large_buffer();
-    let mut index: u64 = 0;
-    while index < 1000000 && next_card(index, &mut buffer) {
-        index += 1;
+    for index in 0..MANY {
+        let Some(n) = next_card(&mut buffer) else {
+            break
+        };
+        run_next(index, &buffer[..n]);
     }
 }

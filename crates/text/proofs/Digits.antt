@@ -58,7 +58,6 @@ length-decimal_to (suc k) n =
     (simp length-append (omega (arith, length-decimal_to k (n / 10))))
 
 pub length-decimal : (n : ℕ) → length (decimal n) ≤ 21
-unfolding decimal
 length-decimal n = omega (arith, length-decimal_to 20 n)
 
 length_digits : (b k n : ℕ) → length (last_digits b k n) ≡ k
@@ -66,12 +65,10 @@ length_digits b zero n = refl
 length_digits b (suc k) n = simp length-append (omega (arith, length_digits b k (n / b)))
 
 pub length-hexadecimal : (n : ℕ) → length (hexadecimal n) ≡ 17
-unfolding hexadecimal
 length-hexadecimal n = ap suc (length_digits 16 16 n)
 
 -- what `io` wrote behind a space is the field
 pub decimal-field : (n k : ℕ) (s : List ℕ) → n < 2 ^ 64 → IsDigitCount 10 1 n k → s ≡ last_digits 10 k n → 32 ∷ s ≡ decimal n
-unfolding decimal
 decimal-field n k s small f e = ap (λ (t : List ℕ). 32 ∷ t) (e ∙ decimal_digits 20 n k (decimal-few n k small f) f)
 
 -- and 16 hexadecimal ones
@@ -79,5 +76,4 @@ hexadecimal-width : (n k : ℕ) → n < 2 ^ 64 → IsDigitCount 16 16 n k → k 
 hexadecimal-width n k small f = omega (arith, f.0, at_most 16 16 n k 16 (omega arith) (omega arith) (omega arith) f)
 
 pub hexadecimal-field : (n k : ℕ) (s : List ℕ) → n < 2 ^ 64 → IsDigitCount 16 16 n k → s ≡ last_digits 16 k n → 32 ∷ s ≡ hexadecimal n
-unfolding hexadecimal
 hexadecimal-field n k s small f e = ap (λ (t : List ℕ). 32 ∷ t) (e ∙ ap (λ (m : ℕ). last_digits 16 m n) (hexadecimal-width n k small f))

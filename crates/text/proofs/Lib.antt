@@ -1,3 +1,2 @@
--- What the proofs of several functions cite, and those of the crates above.
-pub mod Pieces
+-- What the proofs of `text` cite, and those of the crates above.
 pub mod Digits

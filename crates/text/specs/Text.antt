@@ -9,8 +9,8 @@ decimal_to zero n = []
 decimal_to (suc k) n = when ltb n 10 then hex_digit_ascii n ∷ [] else decimal_to k (n / 10) ++ hex_digit_ascii (n % 10) ∷ []
 
 -- a field stands behind a space, 32; 20 digits hold 64 bits
-unfoldable pub decimal : ℕ → List ℕ
+abbrev pub decimal : ℕ → List ℕ
 decimal n = 32 ∷ decimal_to 20 n
 
-unfoldable pub hexadecimal : ℕ → List ℕ
+abbrev pub hexadecimal : ℕ → List ℕ
 hexadecimal n = 32 ∷ last_digits 16 16 n

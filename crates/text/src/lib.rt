@@ -1,56 +1,45 @@
-// Text and numbers as text, put into a buffer piece by piece; what lies past its end is left out.
+// Numbers as text, put into an output; what does not fit is left out.
 #![tactic(auto)]
 
+ghost use Rattle.std.specs.Prelude.{◌∷◌};
 ghost use Rattle.prelude.specs.Prelude.{bit};
+ghost use Rattle.fields.specs.Output.{Writes};
 ghost use Rattle.text.specs.Text.{
   decimal as decimal_of,
   hexadecimal as hexadecimal_of,
 };
-ghost use Rattle.text.specs.Puts.{PutsWithin};
 
-// Copies a text to the bytes from `at` on. Like every function here it answers where the next piece goes.
-pub fn put_text(out: &mut [u8], at: usize, text: &[u8]) -> usize
-    ensures { PutsWithin out.old at text.now out.new result }
+use fields::Output;
+
+// Digits behind a space.
+fn put_digits(out: &mut Output<'_>, digits: &[u8])
+    ensures { Writes out.old out.new (32 ∷ digits.now) }
 {
-    let mut next = at;
-    let mut k: usize = 0;
-    while k < text.len() {
-        if next >= out.len() {
-            return next;
-        }
-        out[next] = text[k];
-        next += 1;
-        k += 1;
-    }
-    next
+    out.put(b" ");
+    out.put(digits);
 }
 
 // A number behind a space.
-pub fn put_decimal(out: &mut [u8], at: usize, n: u64) -> usize
-    ensures { PutsWithin out.old at (decimal_of n) out.new result }
+pub fn put_decimal(out: &mut Output<'_>, n: u64)
+    ensures { Writes out.old out.new (decimal_of n) }
 {
     let mut digits = [0u8; 20];
     let k = io::decimal(n, &mut digits);
-    let decimal_at = put_text(out, at, b" ");
-    put_text(out, decimal_at, &digits[..k])
+    put_digits(out, &digits[..k]);
 }
 
 // 16 hexadecimal digits behind a space.
-pub fn put_hexadecimal(out: &mut [u8], at: usize, n: u64) -> usize
-    ensures { PutsWithin out.old at (hexadecimal_of n) out.new result }
+pub fn put_hexadecimal(out: &mut Output<'_>, n: u64)
+    ensures { Writes out.old out.new (hexadecimal_of n) }
 {
     let mut digits = [0u8; 16];
     let k = io::hex(n, 16, &mut digits);
-    let hexadecimal_at = put_text(out, at, b" ");
-    put_text(out, hexadecimal_at, &digits[..k])
+    put_digits(out, &digits[..k]);
 }
 
 // A truth value as the digit 0 or 1, behind a space.
-pub fn put_bit(out: &mut [u8], at: usize, b: bool) -> usize
-    ensures { PutsWithin out.old at (decimal_of (bit b)) out.new result }
+pub fn put_bit(out: &mut Output<'_>, b: bool)
+    ensures { Writes out.old out.new (decimal_of (bit b)) }
 {
-    if b {
-        return put_decimal(out, at, 1);
-    }
-    put_decimal(out, at, 0)
+    put_decimal(out, prelude::bit(b) as u64);
 }

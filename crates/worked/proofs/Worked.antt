@@ -3,57 +3,43 @@
 use Prim.Native.Nat.{ℕ, ◌*◌}
 use mathlib.Core.Bool.{Bool, true, false, ◌&&◌}
 use mathlib.Core.List.{List, [], ◌∷◌, map}
-use mathlib.Core.Option.{some}
 use lib.Dec.{T, eqb}
 use lib.ListN.{length, replicate}
 use lib.Ieee.{Float, binary64, neg, to_bits}
-use Rattle.prelude.specs.Prelude.{when◌then◌else◌}
-use Rattle.number.specs.Numbers as number
+use Rattle.std.specs.Prelude.{Option, None, ok_or, Result, Ok, Err}
+use Rattle.number.specs.Numbers.{answer, number, number_of}
+use Rattle.number.specs.declared.Refusal.{Refusal}
+use Rattle.number.specs.declared.Refusal.TheVariants as refusal
 use Rattle.ieee.proofs.Opened as Ieee
 use Rattle.ieee_root.proofs.Opened as Root
-use Rattle.pixel.proofs.Opened as Pixel
-use Rattle.photograph.proofs.Opened as Photograph
 use Rattle.footprint.proofs.Opened as Footprint
 use Rattle.sampling.proofs.Opened as Sampling
 use Rattle.sample_tree.proofs.Opened as SampleTree
-use Rattle.homography.proofs.Opened as Homography
-use Rattle.quad.proofs.Opened as Quad
-use Rattle.line.proofs.Opened as Line
-use Rattle.fit.proofs.Opened as Fit
-use Rattle.peak.proofs.Opened as Peak
-use Rattle.aitken.proofs.Opened as Aitken
 use Rattle.profile.proofs.Opened as Profile
-use Rattle.edge_point.proofs.Opened as EdgePoint
 use Rattle.grid.proofs.Opened as Grids
 use Rattle.probes.proofs.Opened as Probes
-use Rattle.probe.proofs.Opened as Probe
 use Rattle.edge.proofs.Opened as Edge
-use Rattle.edges.proofs.Opened as Edges
-use Rattle.corners.proofs.Opened as Corners
 use Rattle.round.proofs.Opened as Round
 use Rattle.rounds.proofs.Opened as Rounds
-use Rattle.request.proofs.Opened as Requests
 use Rattle.refine.proofs.Opened as Refine
 use Rattle.ieee.specs.Floats.{◌⊘◌, f0, f1, f2, f3, f½, float}
 use Rattle.consts.specs.Consts.{defaults}
 use Rattle.pixel.specs.Pixels.{source, direction, edge_point}
+use Rattle.pixel.specs.declared.EdgePoint.{EdgePoint}
 use Rattle.pixel.specs.declared.SourcePixel.{SourcePixel}
 use Rattle.pixel.specs.declared.WorkingPixel.{WorkingPixel}
+use Rattle.homography.specs.declared.PerspectiveTransform.{PerspectiveTransform}
 use Rattle.homography.specs.Homography.{map_point}
-use Rattle.quad.specs.declared.MapAnswer.{MapAnswer}
 use Rattle.quad.specs.Quad.{square_to_quad, map_answer}
 use Rattle.line.specs.declared.Line2.{Line2}
-use Rattle.line.specs.declared.CrossAnswer.{CrossAnswer}
 use Rattle.line.specs.Line.{line, crossing, cross_answer}
 use Rattle.footprint.specs.declared.BorderMode.TheVariants.{Reject}
-use Rattle.sampling.specs.declared.LumaAnswer.{LumaAnswer}
-use Rattle.footprint.specs.declared.View.TheVariants.{Plain}
 use Rattle.sampling.specs.Sampling.{sample_bilinear}
+use Rattle.fit.specs.Fit.{fit_edge}
+use Rattle.peak.specs.Peak.{peak}
 use Rattle.aitken.specs.Aitken.{aitken}
 use Rattle.profile.specs.declared.Ray.{Ray}
-use Rattle.profile.specs.Profile.{passed}
-use Rattle.edge_point.specs.declared.PointAnswer.{PointAnswer}
-use Rattle.edge_point.specs.EdgePoint.{point_answer}
+use Rattle.profile.specs.Profile.{found}
 use Rattle.grid.specs.Grids.{Grid}
 use Rattle.probes.specs.Probes.{probes_of}
 use Rattle.request.specs.declared.Request.{Request}
@@ -80,47 +66,39 @@ pub record Outcome : Type 0 where
   pub values : List Float
 
 abbrev gives : List Float → Outcome
-gives vs = record { number = number.answer; values = vs }
+gives vs = record { number = answer; values = vs }
 
 abbrev refuses : ℕ → Outcome
 refuses n = record { number = n; values = [] }
 
 -- ---- what the definitions yield
 
--- the values of an answer alone
-only : ℕ → List Float → List Float
-only n vs = when eqb n number.answer then vs else []
+-- what a call returns: the values of an answer, and none of a refusal
+of : {A : Type 0} → (A → List Float) → Result A Refusal → Outcome
+of values (Ok a) = gives (values a)
+of values (Err e) = refuses (number e)
+
+-- an edge point, and the refusal where there is none
+of_point : (EdgePoint → List Float) → Option EdgePoint → Outcome
+of_point values p = of values (ok_or p refusal.Profile)
 
 -- from the origin along the x axis, so that a place there is its offset
 rightwards : Bool → Ray
 rightwards inward_differs = record { coarse = source f0 f0; normal = direction f1 f0; step = f1; inverted = false; inward_differs = inward_differs }
-
-of_point : PointAnswer → List Float → Outcome
-of_point a vs = record { number = a.number; values = only a.number vs }
-
-of_sample : LumaAnswer → Outcome
-of_sample a = record { number = a.number; values = only a.number (a.luma ∷ []) }
-
-of_map : Float → Float → MapAnswer → Outcome
-of_map u v a = record { number = a.number; values = only a.number ((map_point a.map u v).0 ∷ (map_point a.map u v).1 ∷ []) }
-
-of_crossing : CrossAnswer → Outcome
-of_crossing a = record { number = a.number; values = only a.number (a.place.0 ∷ a.place.1 ∷ []) }
 
 all_dark : ℕ → Grid
 all_dark dim = record { dim = dim; modules = replicate (dim * dim) 1 }
 
 outcome : Case → Outcome
 outcome (samples vs inward_differs) =
-    let a = point_answer (passed defaults (rightwards inward_differs) (source f0 f0) (some (map float vs))) in
-    of_point a (a.point.pos.0 ∷ a.point.weight ∷ [])
+    let y = rightwards inward_differs in
+    of_point (λ p. p.pos.0 ∷ p.weight ∷ []) (found y.normal y.step (source f0 f0) (peak defaults y.inverted y.inward_differs (map float vs)))
 outcome (projections x0 x1 x2 step) =
-    let a = point_answer (aitken (direction f1 f0) step (edge_point (source x2 f0) f1) (x0 ∷ x1 ∷ x2 ∷ [])) in
-    of_point a (a.point.pos.0 ∷ [])
-outcome (pixels x y) = of_sample (sample_bilinear (0 ∷ 100 ∷ 200 ∷ 40 ∷ []) 2 2 2 x y Reject)
+    of_point (λ p. p.pos.0 ∷ []) (aitken (direction f1 f0) step (edge_point (source x2 f0) f1) (x0 ∷ x1 ∷ x2 ∷ []))
+outcome (pixels x y) = of (λ v. v ∷ []) (sample_bilinear (0 ∷ 100 ∷ 200 ∷ 40 ∷ []) 2 2 2 x y Reject)
 outcome (border dim) = gives (map (λ e. float (length (probes_of defaults (all_dark dim) e))) (0 ∷ 1 ∷ 2 ∷ 3 ∷ []))
-outcome (corners q u v) = of_map u v (map_answer (square_to_quad q))
-outcome (lines a b) = of_crossing (cross_answer (crossing a b))
+outcome (corners q u v) = of (λ (m : PerspectiveTransform). (map_point m u v).0 ∷ (map_point m u v).1 ∷ []) (map_answer (square_to_quad q))
+outcome (lines a b) = of (λ (p : SourcePixel). p.0 ∷ p.1 ∷ []) (cross_answer (crossing a b))
 
 -- ---- the list
 
@@ -166,9 +144,7 @@ right [] = true
 right (c ∷ cs) = eqb (outcome c.0).number c.1.number && same_values (outcome c.0).values c.1.values && right cs
 
 pub worked : T (right cases)
-unfolding right same_values cases outcome only rightwards of_point of_sample of_map of_crossing all_dark quarters to_bits
-    Ieee.opened Root.opened Photograph.opened Footprint.opened Sampling.opened Homography.opened Quad.opened Line.opened Peak.opened Aitken.opened Profile.opened EdgePoint.opened Grids.opened
-    Probes.opened
+unfolding right same_values cases outcome of of_point rightwards all_dark quarters to_bits Ieee.opened Root.opened Footprint.opened Sampling.opened Profile.opened Grids.opened Probes.opened
 worked = tt
 
 -- ---- the grey photograph
@@ -185,15 +161,14 @@ grey = record {
   sy = f1;
   corners = at f0 f0 ∷ at f2 f0 ∷ at f2 f2 ∷ at f0 f2 ∷ [];
   inverted = false;
-  view = Plain;
+  view = None;
   settings = defaults;
 }
 
 pub grey_photograph : Photograph
 grey_photograph = record { bytes = replicate 16 128; stride = 4 }
 
-pub grey_is-thin : T (eqb (refine grey (1 ∷ 1 ∷ 1 ∷ 1 ∷ []) grey_photograph).number 9)
+pub grey_is-thin : T (eqb (number_of (refine grey (1 ∷ 1 ∷ 1 ∷ 1 ∷ []) grey_photograph)) 9)
 unfolding grey grey_photograph at
-    Ieee.opened Root.opened Pixel.opened Photograph.opened Footprint.opened Sampling.opened SampleTree.opened Homography.opened Quad.opened Line.opened Fit.opened
-    Peak.opened Aitken.opened Profile.opened Grids.opened Probes.opened Probe.opened Edge.opened Edges.opened Corners.opened Round.opened Rounds.opened Requests.opened Refine.opened
+    Ieee.opened Root.opened Footprint.opened Sampling.opened SampleTree.opened fit_edge Profile.opened Grids.opened Probes.opened Edge.opened Round.opened Rounds.opened Refine.opened
 grey_is-thin = tt

@@ -1,32 +1,20 @@
--- `edge::find_points` meets its contract. The loop's invariant: what is left of the tree are the probes from i on. Assumes nothing.
-use mathlib.Core.Path.{◌≡◌, refl, ◌∙◌}
-use Prim.Native.Nat.{◌-◌, ◌≤◌}
-use native.Mathlib.Omega.{arith}
-use lib.ListN.{length}
-use Rattle.photograph.specs.Photographs.{photo}
-use Rattle.sample_tree.specs.Run.{state, sampler}
-use Rattle.sample_tree.proofs.Meaning.{sheet_long, copy_long}
-use Rattle.fit.specs.Fit.{points_of}
-use Rattle.edge.specs.Store.{stored_to}
-use Rattle.edge.proofs.Probing.{Left, none_probed, one-probed, all-probed}
+-- `edge::find_points` meets its contract. The loop's invariant: what is left of the tree are the probes from its index on. Assumes nothing.
+use Rattle.edge.proofs.Probing.{next, none_probed, one_found, none_found, all_probed}
+use Rattle.edge.proofs.find_points.Goals.{in-Some, in_default}
 use Rattle.edge.proofs.find_points.Goals as goal
-use Rattle.std.proofs.Common.{rules}
 
-pub loop-i-init : goal.loop-i-init
-unfolding points_of
-loop-i-init c =
-    let a = c.args in
-    (omega arith, omega arith, refl, refl, refl, none_probed _ _ _ a.search.probes.probes a.search.probes.count _)
+pub loop-probe-init : goal.loop-probe-init
+loop-probe-init c = none_probed _ _ _ _ c.requires.xs c.requires.ys c.requires.weights
 
-pub loop-i-preserved : goal.loop-i-preserved
-loop-i-preserved c = let pre = c.requires in (
-  omega (arith, c.loop-i-test.true),
-  omega (arith, c.loop-i.invariant.1, c.put-count.ensures.one),
-  c.put-count.auto.xs ∙ c.loop-i.invariant.2,
-  c.put-count.auto.ys ∙ c.loop-i.invariant.3,
-  c.put-count.auto.weights ∙ c.loop-i.invariant.4,
-  one-probed _ _ _ _ _ _ _ _ c.loop-i-test.true (omega (arith, pre.few, pre.whole)) c.loop-i.invariant.5 c.probe_ray-aim.ensures c.localize_probe-run.ensures c.put-count.ensures.points,
-)
+pub loop-probe-preserved : goal.loop-probe-preserved
+loop-probe-preserved c =
+    let at = next c.args.probes.now.items _ c.loop-probe.probe-index _ c.as_slice-probe-items.ensures.value c.loop-probe-test.true in
+    elim c.match-localize_probe.branch [
+      | in-Some w ↦ rw w.found-is (one_found _ _ _ c.loop-probe.invariant at c.probe_ray-aim.ensures c.localize_probe.ensures w.in-Some.is w.push.ensures)
+      | in_default w ↦ rw w.found-is (none_found _ _ _ c.loop-probe.invariant at c.probe_ray-aim.ensures c.localize_probe.ensures w.in_default.is)
+    ]
 
 pub returns : goal.returns
-returns c = (omega (arith, c.loop-i.invariant.0, c.loop-i.invariant.1), all-probed _ _ _ _ _ _ _ c.loop-i-test.false c.loop-i.invariant.5)
+returns c =
+    let slice = c.as_slice-probe-items.ensures.value in
+    all_probed _ _ _ (rw slice at c.loop-probe-test.false) c.loop-probe.invariant

@@ -1,20 +1,7 @@
--- `localize_edge_point` meets its contract: the number of the view, and then a case for each end of `localize`. Assumes nothing.
-use Rattle.edge_point.proofs.Answers.{refused, ended}
-use Rattle.edge_point.specs.EdgePoint.{point_answer}
-use Rattle.sample_tree.proofs.Meaning.{ran-value}
+-- `localize_edge_point` meets its contract: what `localize` finds is what its step is worth. Assumes nothing.
+use Rattle.sample_tree.proofs.Samplers.{samples_value}
 use mathlib.Core.Path.{◌∙◌}
 use Rattle.edge_point.proofs.localize_edge_point.Goals as goal
-use Rattle.std.proofs.Common.{rules}
 
-pub returns-then-refusal-ne-ANSWER : goal.returns-then-refusal-ne-ANSWER
-returns-then-refusal-ne-ANSWER c = c.no_point.ensures ∙ refused _ _ _ _ c.view_number-refusal.ensures c.if-refusal-ne-ANSWER.true
-
-pub returns-in-Found : goal.returns-in-Found
-unfolding point_answer
-returns-in-Found c =
-    ended _ _ _ _ c.view_number-refusal.ensures c.if-refusal-ne-ANSWER.false c.defaults.ensures (ran-value _ _ c.localize-run.ensures) c.in-Found.is
-
-pub returns-in-NoEdge : goal.returns-in-NoEdge
-unfolding point_answer
-returns-in-NoEdge c =
-    c.no_point-in-NoEdge.ensures ∙ ended _ _ _ _ c.view_number-refusal.ensures c.if-refusal-ne-ANSWER.false c.defaults.ensures (ran-value _ _ c.localize-run.ensures) c.in-NoEdge.is
+pub returns : goal.returns
+returns c = c.ok_or.ensures.value ∙ rw (← c.in_ok-check_view.ensures, ← c.defaults.ensures, ← samples_value c.localize-point.ensures)

@@ -1,13 +1,12 @@
--- `ieee::abs` meets its contract. Assumes nothing.
+-- `ieee::abs` meets its contract: a NaN is as it is, and of another value the sign bit is cleared. Assumes nothing.
 use mathlib.Core.Path.{◌≡◌, refl, sym, ap, ◌∙◌, subst}
-use mathlib.Core.Bool.{Bool, not}
+use mathlib.Core.Bool.{Bool, true, not, true≢false}
 use lib.Bits.{bit_and}
 use lib.Dec.{T}
 use lib.Ieee.{Float, nan, inf, fin, binary64, to_bits, of_bits, fits, is_nan}
 use lib.Ieee.Bits.{of_bits-to_bits, nan_bits_is}
-use lib.Ieee.Compare.{differs_from_itself}
 use Rattle.ieee.specs.Parts.{magnitude}
-use Rattle.ieee.proofs.Patterns.{yes, equals_itself, unsigned, magnitude-bits}
+use Rattle.ieee.proofs.Patterns.{yes, unsigned, magnitude-bits}
 use Rattle.ieee.proofs.abs.Goals as goal
 
 cleared : (x : Float) → T (fits binary64 x) → of_bits binary64 (bit_and (to_bits binary64 x) 0x7fff_ffff_ffff_ffff) ≡ magnitude x
@@ -19,22 +18,21 @@ same_nan nan = refl
 same_nan (inf s) = refl
 same_nan (fin s m e) = refl
 
-of_nan : (x : Float) → x ≡ nan → x ≡ magnitude x
-unfolding magnitude
-of_nan x h = h ∙ sym (ap magnitude h)
-
-pub float_to_bits-result : goal.float_to_bits-result
-float_to_bits-result c = equals_itself c.args.x c.if-x.false
+of_nan : (x : Float) → true ≡ is_nan x → x ≡ magnitude x
+unfolding is_nan magnitude
+of_nan nan h = refl
+of_nan (inf s) h = absurd (true≢false h)
+of_nan (fin s m e) h = absurd (true≢false h)
 
 pub float_from_bits-result : goal.float_from_bits-result
 float_from_bits-result c =
     let x = c.args.x in
     subst (λ (b : Bool). T (not b))
     (same_nan x ∙ ap is_nan (sym (cleared x (yes c.well_formed.0.1))) ∙ sym (nan_bits_is binary64 (bit_and (to_bits binary64 x) 0x7fff_ffff_ffff_ffff)))
-    (equals_itself x c.if-x.false)
+    c.if-is_nan.ensures.not_nan
 
-pub returns-then-x : goal.returns-then-x
-returns-then-x c = of_nan c.args.x (differs_from_itself c.args.x (yes c.if-x.true))
+pub returns-then-is_nan : goal.returns-then-is_nan
+returns-then-is_nan c = of_nan c.args.x c.if-is_nan.ensures.value
 
-pub returns-else-x : goal.returns-else-x
-returns-else-x c = cleared c.args.x (yes c.well_formed.0.1)
+pub returns-else-is_nan : goal.returns-else-is_nan
+returns-else-is_nan c = cleared c.args.x (yes c.well_formed.0.1)

@@ -1,28 +1,13 @@
--- `job_card::find_field` meets its contract: three ways out refuse, and the fourth hands back what `part_of` found. Assumes nothing.
-use mathlib.Core.Bool.{and-false}
-use mathlib.Core.Path.{sym, ◌∙◌}
-use borrow.Author.Tests.{lt-leb, not-true, not-false}
-use Rattle.job_card.proofs.Parts.{not_found, found}
+-- `job_card::find_field` meets its contract: the part that it hands back is what `part_of` found. Assumes nothing.
+use mathlib.Core.Path.{sym, ap, ◌∙◌}
+use mathlib.Core.List.{List, []}
+use Prim.Native.Nat.{ℕ}
+use Rattle.std.specs.Borrow.{Bor}
+use Rattle.std.specs.Prelude.{Option, Ok, unwrap_or}
+use Rattle.job_card.proofs.Parts.{found, unwrap_or-now}
 use Rattle.job_card.proofs.find_field.Goals as goal
 
-pub returns-then-tag-lt1 : goal.returns-then-tag-lt1
-returns-then-tag-lt1 c =
-    let both = not_found _ _ (rw (lt-leb 1 _ c.if-tag-lt1.true)) in
-    record { result_value = both.0; number_after = both.1 }
-
-pub returns-then-tag-gt8 : goal.returns-then-tag-gt8
-returns-then-tag-gt8 c =
-    let both = not_found _ _ (rw (lt-leb _ 8 c.if-tag-gt8.true, and-false)) in
-    record { result_value = both.0; number_after = both.1 }
-
-pub returns-then-not-well_formed : goal.returns-then-not-well_formed
-returns-then-not-well_formed c =
-    let bad = sym c.well_formed-2.ensures ∙ not-true c.well_formed-2.result c.if-not-well_formed.true-raw in
-    let both = not_found _ _ (rw (bad, and-false)) in
-    record { result_value = both.0; number_after = both.1 }
-
-pub returns : goal.returns
-returns c =
-    let both = found _ _ _ c.if-tag-lt1.false c.if-tag-gt8.false
-    (sym c.well_formed-2.ensures ∙ not-false _ c.if-not-well_formed.false-raw) c.part_of.ensures in
-    record { result_value = both.0; number_after = both.1 }
+pub returns-then-well_formed-clause-found : goal.returns-then-well_formed-clause-found
+returns-then-well_formed-clause-found c =
+    let part = ap (λ (x : Bor (List ℕ)). x.now) c.unwrap_or.ensures ∙ unwrap_or-now c.part_of.result _ ∙ ap (λ (o : Option (List ℕ)). unwrap_or o []) c.part_of.ensures in
+    found _ _ c.if-tag-ge1.true c.if-tag-le8.true (sym c.if-well_formed.ensures) ∙ ap Ok (sym part)

@@ -1,13 +1,8 @@
--- `line_fit::weighted_sum` meets its contract: the total is the sum of the products up to i. Assumes nothing.
-use Prim.Native.Nat.{◌≤◌, ◌-◌}
+-- `line_fit::weighted_sum`: the total is the sum of the terms up to i. Assumes nothing.
 use mathlib.Core.Path.{◌≡◌}
-use lib.ListN.{length}
 use Rattle.ieee.specs.Floats.{◌⊗◌}
 use Rattle.float_lists.specs.Sums.{at, sum_to}
 use Rattle.line_fit.proofs.weighted_sum.Given as goal
 
 abbrev pub invariant-loop-i : goal.invariant-loop-i
-invariant-loop-i l = (l.i ≤ length l.values) × (l.total ≡ sum_to l.i (λ k. at l.values k ⊗ at l.weights k))
-
-abbrev pub decreases-loop-i : goal.decreases-loop-i
-decreases-loop-i l = length l.values - l.i
+invariant-loop-i l = l.total ≡ sum_to l.i (λ k. at l.values k ⊗ at l.weights k)

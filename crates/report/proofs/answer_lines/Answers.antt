@@ -1,15 +1,17 @@
--- `report::answer_lines` meets its contract: a refusal has one line, and an answer the lines of its corners and edges behind it. Assumes nothing.
+-- `report::answer_lines` meets its contract: the lines fit the buffer. Assumes nothing.
+use mathlib.Core.Path.{◌≡◌, ◌∙◌}
 use native.Mathlib.Omega.{arith}
-use Rattle.text.proofs.Pieces.{then, as_text}
-use Rattle.report.proofs.Lines.{refused, answered, whole}
+use lib.ListN.{length}
+use lib.Seq.{sets}
+use Rattle.report.specs.Lines.{answer_lines}
+use Rattle.report.proofs.Lines.{whole}
 use Rattle.report.proofs.answer_lines.Goals as goal
-
-pub returns-then-answer-ne-ANSWER : goal.returns-then-answer-ne-ANSWER
-returns-then-answer-ne-ANSWER c =
-    let both = whole _ (omega arith) (as_text (refused _ c.if-answer-ne-ANSWER.true) c.put_result-next.ensures) in
-    record { prefix_len = both.0; puts = both.1 }
 
 pub returns : goal.returns
 returns c =
-    let both = whole _ (omega arith) (as_text (answered _ c.if-answer-ne-ANSWER.false) (then c.put_result-next.ensures (then c.put_corners-edges.ensures c.put_edges.ensures))) in
+    let new = c.new-out.ensures in
+    let put = c.put_answer.ensures in
+    let wrote : c.put_answer.new.out.buffer.now ≡ sets c.args.buffer.now 0 (answer_lines c.args.answer) = put.wrote ∙ rw (new.bytes, new.at) in
+    let long : length c.new-out.result.buffer.now ≡ 1024 = rw new.bytes (omega arith) in
+    let both = whole c.args.answer _ _ _ (omega arith) wrote (omega (arith, put.on, new.at, long)) in
     record { prefix_len = both.0; puts = both.1 }

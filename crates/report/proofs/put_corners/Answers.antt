@@ -1,9 +1,10 @@
--- `report::put_corners` meets its contract: four lines, one behind the other. Assumes nothing.
-use Rattle.text.proofs.Pieces.{then}
-use Rattle.report.specs.Lines.{corner_lines}
+-- `report::put_corners` meets its contract. The loop's invariant: the lines below i are written. Assumes nothing.
+use native.Mathlib.Numerals.{add-one}
+use Rattle.fields.proofs.Writes.{none, then}
 use Rattle.report.proofs.put_corners.Goals as goal
 
-pub returns : goal.returns
-unfolding corner_lines
-returns c =
-    then c.put_corner-one.ensures (then c.put_corner-two.ensures (then c.put_corner-three.ensures c.put_corner.ensures))
+pub loop-i-init : goal.loop-i-init
+loop-i-init c = none
+
+pub loop-i-preserved : goal.loop-i-preserved
+loop-i-preserved c = rw add-one (then c.loop-i.invariant c.put_corner.ensures)

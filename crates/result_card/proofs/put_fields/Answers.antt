@@ -1,10 +1,11 @@
 -- `result_card::put_fields` meets its contract: six pieces, one behind the other, are the card. Assumes nothing.
 use mathlib.Core.Path.{◌≡◌}
 use lib.ListN.{length}
-use Rattle.prelude.proofs.Lists.{length_mapped}
-use Rattle.result_card.proofs.CardLayout.{card-written}
-use Rattle.result_card.proofs.put_fields.Goals as goal
 use Rattle.std.proofs.Common.{rules}
+use Rattle.prelude.proofs.Lists.{length_mapped}
+use Rattle.fields.proofs.Writes.{then}
+use Rattle.result_card.proofs.CardLayout.{laid_out, length-result}
+use Rattle.result_card.proofs.put_fields.Goals as goal
 use Rattle.result_card.proofs.put_fields.Goals.{Start}
 
 four_corners : (start : Start) → length start.args.r.corners ≡ 4
@@ -19,5 +20,9 @@ four_flags start = search rules
 pub returns : goal.returns
 returns c =
     let start = (goal.at.returns c).Start in
-    card-written start.args.r (four_corners start) (four_stats start) (four_flags start) _ _ _ _ _ _ _ start.requires
-    c.put_header.ensures c.put_corners.ensures c.put_header-2.ensures c.put_stats.ensures c.put_header-3.ensures c.put_flags.ensures
+    let r = start.args.r in
+    record {
+      card = rw (laid_out r (four_corners start) (four_stats start) (four_flags start))
+          (then c.put_header.ensures (then c.put_corners.ensures (then c.put_header-2.ensures (then c.put_stats.ensures (then c.put_header-3.ensures c.put_flags.ensures)))));
+      len = length-result r (four_corners start) (four_stats start) (four_flags start);
+    }

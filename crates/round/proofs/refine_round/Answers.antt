@@ -1,11 +1,19 @@
--- `refine_round` meets its contract: no map ends it, and else its edges ran. Assumes nothing.
-use Rattle.round.proofs.Mapped.{no-map, edges_ran}
-use Rattle.round.proofs.refine_round.Goals as goal
+-- `refine_round` meets its contract: no map ends it, and else its edges are fitted and end it. Assumes nothing.
+use mathlib.Core.Path.{◌≡◌}
+use Rattle.std.specs.Prelude.{Err}
 use Rattle.std.proofs.Common.{rules}
+use Rattle.round.proofs.Mapped.{no-map, edges_stop, edges_end}
+use Rattle.round.proofs.refine_round.Goals as goal
 
-pub returns-in-NoMap : goal.returns-in-NoMap
-returns-in-NoMap c = no-map _ _ _ _ c.quad_map.ensures _ c.in-NoMap.is c.refused.ensures
+pub returns-in_err-map : goal.returns-in_err-map
+returns-in_err-map c =
+    let refused : c.from_residual.result ≡ Err c.in_err-map.field-0.0 = search rules in
+    rw refused (no-map _ _ _ c.square_to_quad.ensures c.in_err-map.was)
 
-pub returns-in-By : goal.returns-in-By
-returns-in-By c =
-    edges_ran _ _ _ _ c.quad_map.ensures c.in-By.is c.fit_edges-run.ensures c.round_end.ensures
+pub returns-in_err-edges : goal.returns-in_err-edges
+returns-in_err-edges c =
+    let refused : c.from_residual-in_err-edges.result ≡ Err c.in_err-edges.field-0.0 = search rules in
+    rw refused (edges_stop _ _ _ c.square_to_quad.ensures c.in_ok-map.was c.fit_edges.ensures c.in_err-edges.was)
+
+pub returns : goal.returns
+returns c = edges_end _ _ _ c.square_to_quad.ensures c.in_ok-map.was c.fit_edges.ensures c.in_ok-edges.was c.round_end.ensures

@@ -1,12 +1,14 @@
 -- `refine_rounds` meets its contract: the first round ends it, or the further ones ran behind it. Assumes nothing.
+use mathlib.Core.Path.{◌≡◌}
+use Rattle.std.specs.Prelude.{Err}
+use Rattle.std.proofs.Common.{rules}
 use Rattle.rounds.proofs.RoundByRound.{first_stops, rounds-ran}
 use Rattle.rounds.proofs.refine_rounds.Goals as goal
-use Rattle.std.proofs.Common.{rules}
 
-pub returns-then-answer-ne-ANSWER : goal.returns-then-answer-ne-ANSWER
-returns-then-answer-ne-ANSWER c =
-    first_stops _ _ _ _ c.refine_round-first.ensures c.if-answer-ne-ANSWER.true
+pub returns-in_err-first : goal.returns-in_err-first
+returns-in_err-first c =
+    let refused : c.from_residual.result ≡ Err c.in_err-first.field-0.0 = search rules in
+    rw refused (first_stops _ _ _ c.refine_round.ensures c.in_err-first.was)
 
 pub returns : goal.returns
-returns c =
-    rounds-ran _ _ _ _ c.refine_round-first.ensures c.if-answer-ne-ANSWER.false c.remaining_rounds.ensures
+returns c = rounds-ran _ _ _ c.refine_round.ensures c.in_ok-first.was c.remaining_rounds.ensures

@@ -1,9 +1,0 @@
--- `working_of` meets its contract: each number is what `float_at` reads. Assumes nothing.
-use Rattle.c_lists.specs.Lent.{working_of}
-use Rattle.c_lists.proofs.working_of.Goals as goal
-use Rattle.std.proofs.Common.{rules}
-
-pub returns : goal.returns
-unfolding working_of
-returns c =
-    simp (c.float_at-8.ensures, c.float_at-7.ensures, c.float_at-6.ensures, c.float_at-5.ensures, c.float_at-4.ensures, c.float_at-3.ensures, c.float_at-2.ensures, c.float_at.ensures)

@@ -1,2 +1,0 @@
--- What the proofs of `camera`, and of the crates above it, share.
-pub mod Places

@@ -1,4 +1,0 @@
--- What belongs to no one function of `corners`.
-pub mod Crossings
--- the definitions opened together
-pub mod Opened

@@ -1,4 +1,0 @@
--- What belongs to no one function of `edge_point`.
-pub mod Answers
--- the definitions opened together
-pub mod Opened

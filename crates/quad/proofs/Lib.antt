@@ -1,3 +1,0 @@
-pub mod Laws
--- the definitions opened together
-pub mod Opened

@@ -1,0 +1,84 @@
+-- How the promise of a function that is lent a sampler follows its code: a sample is taken or a callee runs a bound step, and what is left of the tree goes on
+-- to its end, or stops where a step ended in nothing or in an error. A proof of such a function uses these laws alone, and never looks at pixels, sheets or counts. Assumes nothing.
+use mathlib.Core.Path.{◌≡◌, refl, ◌∙◌, subst}
+use Rattle.std.specs.Prelude.{Option, None, Some}
+use Rattle.std.specs.Prelude.{Result, Ok, Err}
+use Rattle.photograph.specs.Photographs.{photo}
+use Rattle.sample_tree.specs.SampleTree.{SampleTree, done, value, ◌>>=◌}
+use Rattle.sample_tree.specs.Options.{on_some}
+use Rattle.sample_tree.specs.Results.{on_ok}
+use Rattle.sample_tree.specs.Run as run
+use Rattle.sample_tree.specs.Run.{State, Runs}
+use Rattle.sample_tree.specs.declared.Sampler.{Sampler}
+use Rattle.sample_tree.specs.Samplers.{sampler_of, state_of, Samples}
+use Rattle.sample_tree.proofs.Meaning.{ran-value}
+use Rattle.sample_tree.proofs.Steps as steps
+use Rattle.sample_tree.proofs.Steps.{Leads}
+
+-- With the sampler as it was at `first`, t was begun; as it is at `now`, what is left of t is u.
+pub record Left {A : Type 0} (first now : Sampler) (t u : SampleTree A) : Type 0 where
+  pub photograph : now.photograph ≡ first.photograph
+  pub scene : now.scene ≡ first.scene
+  pub sheet : now.sheet.ghost_name ≡ first.sheet.ghost_name
+  pub copy : now.copy.ghost_name ≡ first.copy.ghost_name
+  pub leads : Leads (sampler_of first) t (state_of first) u (state_of now)
+
+-- it samples as it did
+same_sampler : (first now : Sampler) → now.photograph ≡ first.photograph → now.scene ≡ first.scene → sampler_of now ≡ sampler_of first
+same_sampler first now hp hs = rw (hp, hs) refl
+
+-- nothing is run yet
+pub start : {A : Type 0} {s : Sampler} {t : SampleTree A} → Left s s t t
+start = record { photograph = refl; scene = refl; sheet = refl; copy = refl; leads = steps.start _ _ _ }
+
+module _ {A : Type 0} {first now : Sampler} {t : SampleTree A} where
+  -- the end
+  pub end : {a : A} → Left first now t (done a) → Samples first now t a
+  end left = record { photograph = left.photograph; scene = left.scene; sheet = left.sheet; copy = left.copy; runs = steps.end _ left.leads }
+
+  module _ {after : Sampler} where
+    -- a call ran all that is left
+    pub ended : {u : SampleTree A} {a : A} → Left first now t u → Samples now after u a → Samples first after t a
+    ended {u} {a} left ran = record {
+      photograph = ran.photograph ∙ left.photograph;
+      scene = ran.scene ∙ left.scene;
+      sheet = ran.sheet ∙ left.sheet;
+      copy = ran.copy ∙ left.copy;
+      runs = steps.ended _ left.leads
+          (subst (λ (ask : run.Sampler State). Runs ask u a (state_of now) (state_of after)) (same_sampler first now left.photograph left.scene) ran.runs);
+    }
+
+    -- a call ran a first step
+    pub called : {B : Type 0} {r : B} (u : SampleTree B) (f : B → SampleTree A) → Left first now t (u >>= f) → Samples now after u r → Left first after t (f r)
+    called {r = r} u f left ran = record {
+      photograph = ran.photograph ∙ left.photograph;
+      scene = ran.scene ∙ left.scene;
+      sheet = ran.sheet ∙ left.sheet;
+      copy = ran.copy ∙ left.copy;
+      leads = steps.then _ left.leads
+          (steps.called _ u f
+          (subst (λ (ask : run.Sampler State). Runs ask u r (state_of now) (state_of after)) (same_sampler first now left.photograph left.scene) ran.runs));
+    }
+
+-- a first step that found something, and one that found nothing
+module _ {A B : Type 0} {first now after : Sampler} {t : SampleTree (Option A)} {r : Option B} (u : SampleTree (Option B)) (f : B → SampleTree (Option A))
+    (left : Left first now t (u >>= on_some f)) (ran : Samples now after u r) where
+  pub found : {b : B} → r ≡ Some b → Left first after t (f b)
+  found is = subst (λ (z : Option B). Left first after t (on_some f z)) is (called u (on_some f) left ran)
+
+  pub found_none : r ≡ None → Samples first after t None
+  found_none is = end (subst (λ (z : Option B). Left first after t (on_some f z)) is (called u (on_some f) left ran))
+
+-- a first step that ended well, and one that ended in an error
+module _ {A B E : Type 0} {first now after : Sampler} {t : SampleTree (Result A E)} {r : Result B E} (u : SampleTree (Result B E)) (f : B → SampleTree (Result A E))
+    (left : Left first now t (u >>= on_ok f)) (ran : Samples now after u r) where
+  pub passed : {b : B} → r ≡ Ok b → Left first after t (f b)
+  passed is = subst (λ (z : Result B E). Left first after t (on_ok f z)) is (called u (on_ok f) left ran)
+
+  pub failed : {e : E} → r ≡ Err e → Samples first after t (Err e)
+  failed is = end (subst (λ (z : Result B E). Left first after t (on_ok f z)) is (called u (on_ok f) left ran))
+
+-- what it ends in is what the step is worth over the sampler's photograph
+pub samples_value : {A : Type 0} {first now : Sampler} {t : SampleTree A} {a : A} → Samples first now t a
+    → a ≡ value first.scene (photo first.photograph.bytes.now first.photograph.stride) t
+samples_value h = ran-value _ _ h.runs

@@ -1,9 +1,0 @@
--- `test_marking_cards::bytes::is_poison` is safe and ends: the place rises to the length. Assumes nothing.
-use Rattle.std.proofs.Common.{◌-◌, length}
-use Rattle.test_marking_cards.proofs.bytes.is_poison.Given as goal
-
-abbrev pub invariant-loop-i : goal.invariant-loop-i
-invariant-loop-i l = Unit {0}
-
-abbrev pub decreases-loop-i : goal.decreases-loop-i
-decreases-loop-i l = length l.s - l.i
