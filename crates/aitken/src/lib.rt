@@ -10,7 +10,7 @@ ghost use Rattle.aitken.specs.Aitken.{
 
 use pixel::{Direction, EdgePoint, SourcePixel};
 
-// What three passes come to: the third stands, or is moved along the normal, or nothing.
+// What three passes come to: the third stands, or is moved along the normal, or nothing. Three cases, and so no `Option`.
 #[derive(Clone, Copy)]
 pub enum Extrapolated {
     Converged,

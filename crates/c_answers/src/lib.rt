@@ -37,7 +37,8 @@ pub fn put_stat(out: &mut [u32], at: u32, e: EdgeStat)
     put_flag(out, i + 3, e.valid);
 }
 
-// Writes what is counted of the four edges, one behind the other.
+// Writes what is counted of the four edges, one behind the other. Written out: a loop over four needs an invariant that
+// says the same again.
 fn put_stats(out: &mut [u32], es: [EdgeStat; 4])
     ensures { out.new ≡ with_stats es out.old }
 {
@@ -47,7 +48,8 @@ fn put_stats(out: &mut [u32], es: [EdgeStat; 4])
     put_stat(out, 12, es[3]);
 }
 
-// Writes the four corners' flags behind what is counted of the edges. Places are written out, as the C header lists them.
+// Writes the four corners' flags behind what is counted of the edges. Written out as `put_stats` is, at the places that
+// the C header lists.
 fn put_flags(out: &mut [u32], fs: [bool; 4])
     ensures { out.new ≡ with_flags fs out.old }
 {

@@ -11,8 +11,9 @@ ghost use Rattle.c_buffers.specs.Buffers.{with_point, zero_point};
 ghost use Rattle.c_edge_points.specs.EdgePoints.{lent_scene, lent_ray};
 
 use footprint::Scene;
+use number::Refusal;
 use photograph::Photograph;
-use pixel::{Direction, SourcePixel};
+use pixel::{Direction, EdgePoint, SourcePixel};
 use profile::Ray;
 
 // Where an edge point is looked for.
@@ -37,6 +38,15 @@ fn lent_ray(
         inverted,
         inward_differs,
     }
+}
+
+// Writes the point that was found, or zeros for a refusal, and gives its number.
+fn write(found: Result<EdgePoint, Refusal>, point: &mut [f64]) -> u32
+    ensures value { result ≡ number_of found }
+    ensures point_after { point.new ≡ with_point (result_unwrap_or found zero_point) point.old }
+{
+    c_buffers::put_point(point, found.unwrap_or(c_buffers::ZERO_POINT));
+    number::number_of(&found)
 }
 
 // ---- refine.rs, `localize_edge_point`
@@ -78,8 +88,7 @@ pub fn localize_edge_point(
         inward_differs,
     );
     let located = edge_point::localize_edge_point(photograph, scene, ray);
-    c_buffers::put_point(point, located.unwrap_or(c_buffers::ZERO_POINT));
-    number::number_of(&located)
+    write(located, point)
 }
 
 // An edge point along a normal through a camera, or 1, 2, 6 or 19.
@@ -122,6 +131,5 @@ pub fn localize_edge_point_mapped(
         inward_differs,
     );
     let seen = edge_point::localize_edge_point(photograph, scene, ray);
-    c_buffers::put_point(point, seen.unwrap_or(c_buffers::ZERO_POINT));
-    number::number_of(&seen)
+    write(seen, point)
 }

@@ -16,12 +16,13 @@ pub fn fit_line_tls_weighted(xs: &[f64], ys: &[f64], weights: &[f64], line: &mut
     ensures line_after { line.new
         ≡ with_line (result_unwrap_or (fit_line xs.now ys.now weights.now) zero_line) line.old }
 {
-    let fitted = line_fit::fit_line(xs, ys, weights);
+    let fitted = line_fit::fit_line_tls_weighted(xs, ys, weights);
     c_buffers::put_line(line, fitted.unwrap_or(c_buffers::ZERO_LINE));
     number::number_of(&fitted)
 }
 
-// Where two lines cross, as a place on the first, or 18.
+// Where two lines cross, as a place on the first, or 18. Of the shape of all calls that may refuse: what is lent is read,
+// and the value or zeros are written. Each has types of its own, so that they would share but the number.
 pub fn intersect_lines(a: &[f64], b: &[f64], place: &mut [f64]) -> u32
     ensures value { result ≡ number_of (cross_answer (crossing (line_of a.now) (line_of b.now))) }
     ensures place_after { place.new

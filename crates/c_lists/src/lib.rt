@@ -15,29 +15,21 @@ pub fn float_at(s: &[f64], i: usize) -> f64
     s.get(i).copied().unwrap_or(f64::NAN)
 }
 
-// Four corners in source pixels, from x0, y0 to x3, y3.
+// Where the x and the y of four corners stand in a list, from x0, y0 to x3, y3.
+const PLACES: [(usize, usize); 4] = [(0, 1), (2, 3), (4, 5), (6, 7)];
+
+// Four corners in source pixels.
 pub fn quad_of(s: &[f64]) -> [SourcePixel; 4]
     ensures { result ≡ quad_of s.now }
 {
-    [
-        SourcePixel(float_at(s, 0), float_at(s, 1)),
-        SourcePixel(float_at(s, 2), float_at(s, 3)),
-        SourcePixel(float_at(s, 4), float_at(s, 5)),
-        SourcePixel(float_at(s, 6), float_at(s, 7)),
-    ]
+    PLACES.map(|(x, y)| SourcePixel(float_at(s, x), float_at(s, y)))
 }
 
-// Four corners in working pixels, from x0, y0 to x3, y3. Written out as the ones above: handing over which pixel to make
-// would take as many lines.
+// Four corners in working pixels. What makes a pixel would be longer as a parameter than this line.
 pub fn working_of(s: &[f64]) -> [WorkingPixel; 4]
     ensures { result ≡ working_of s.now }
 {
-    [
-        WorkingPixel(float_at(s, 0), float_at(s, 1)),
-        WorkingPixel(float_at(s, 2), float_at(s, 3)),
-        WorkingPixel(float_at(s, 4), float_at(s, 5)),
-        WorkingPixel(float_at(s, 6), float_at(s, 7)),
-    ]
+    PLACES.map(|(x, y)| WorkingPixel(float_at(s, x), float_at(s, y)))
 }
 
 // A map, from its nine numbers row by row: a11, a21, a31 first.

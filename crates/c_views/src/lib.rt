@@ -9,7 +9,8 @@ use camera::{CameraCalibration, CameraIntrinsics, LensDistortion};
 use footprint::{BorderMode, View};
 
 // The fx, fy, cx and cy that stand from index i on in a camera's list: the photograph's from 0, the
-// rectified picture's from 4.
+// rectified picture's from 4. Intrinsics and lens are read as in `job`, whose floats are eight bytes each: all that
+// both would share is the names of the fields.
 fn intrinsics_at(s: &[f64], i: usize) -> CameraIntrinsics
     requires { i ≤ 4 }
     ensures { result ≡ intrinsics_at s.now i }
@@ -57,7 +58,8 @@ pub fn view_of(s: &[f64], lens: bool) -> View
     Some(camera_of(s, lens))
 }
 
-// The border mode of a code: 0 rejects, 1 clamps, any other answers with the constant.
+// The border mode of a code, which C passes and which is read here alone: 0 rejects, 1 clamps, any other answers with
+// the constant.
 pub fn border_of(mode: u32, constant: u8) -> BorderMode
     ensures { result ≡ border_of mode constant }
 {

@@ -3,7 +3,6 @@ use mathlib.Core.Path.{refl}
 use Prim.Native.Nat.{ℕ}
 use native.Mathlib.Omega.{arith}
 use mathlib.Core.List.{List}
-use Rattle.std.specs.Prelude.{Err}
 use Rattle.number.specs.declared.Refusal.TheVariants.{Card}
 use Rattle.prelude.proofs.Branches.{either}
 use Rattle.probes.proofs.Counts.{limit_in_room}

@@ -14,7 +14,7 @@ use Rattle.result_card.specs.ResultCard.{result_card}
 abbrev pub job_answer : List ℕ → Answer
 job_answer card = when well_formed card then refine (request_of card) (modules_of card) (photograph_of card) else Err Card
 
--- ---- a job card run into a buffer: a buffer under 93 bytes and a malformed card are refused by the same number, then the job's own end
+-- ---- a job card run into a buffer: a buffer under 93 bytes and a malformed card are refused alike, by `Card`, then the job's own end
 
 abbrev pub ended : Answer → Result (Unit {0}) Refusal
 ended (Ok r) = Ok tt

@@ -54,20 +54,23 @@ fn crossed_at(edges: Edges, i: usize) -> Option<SourcePixel>
 fn refined_corners(q: [SourcePixel; 4], edges: Edges) -> RefinedCorners
     ensures { result ≡ refined_corners q edges }
 {
-    let c0 = crossed_at(edges, 0);
-    let c1 = crossed_at(edges, 1);
-    let c2 = crossed_at(edges, 2);
-    let c3 = crossed_at(edges, 3);
+    let crossed = [
+        crossed_at(edges, 0),
+        crossed_at(edges, 1),
+        crossed_at(edges, 2),
+        crossed_at(edges, 3),
+    ];
     let edge_stats = edges.edge_stats;
+    let corner_refined = crossed.map(|corner| corner.is_some());
     RefinedCorners {
         corners: [
-            c0.unwrap_or(q[0]),
-            c1.unwrap_or(q[1]),
-            c2.unwrap_or(q[2]),
-            c3.unwrap_or(q[3]),
+            crossed[0].unwrap_or(q[0]),
+            crossed[1].unwrap_or(q[1]),
+            crossed[2].unwrap_or(q[2]),
+            crossed[3].unwrap_or(q[3]),
         ],
         edge_stats,
-        corner_refined: [c0.is_some(), c1.is_some(), c2.is_some(), c3.is_some()],
+        corner_refined,
     }
 }
 

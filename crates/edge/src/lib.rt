@@ -9,7 +9,7 @@ ghost use Rattle.edge.specs.Store.{found_points, IsEmpty, HasRoom, Adds};
 
 use arrayvec::ArrayVec;
 use consts::{MAX_EDGE_POINTS, Settings};
-use fit::{EdgeFit, EdgeStat};
+use fit::EdgeFit;
 use number::Refusal;
 use pixel::{EdgePoint, SourcePixel};
 use probe::{Plan, ProbeRay, Side};
@@ -95,15 +95,9 @@ pub fn refine_edge(
 {
     let len = length_of(side.from, side.to);
     if len < 1e-9 {
-        let none = EdgeStat {
-            points_probed: 0,
-            points_fit: 0,
-            dropped_outliers: 0,
-            valid: false,
-        };
         return Ok(EdgeFit {
             line: None,
-            stat: none,
+            stat: edges::no_stat(),
         });
     }
     let probes = probes::probes_of(plan.settings, modules, plan.dim, side.edge);

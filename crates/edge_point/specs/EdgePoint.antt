@@ -1,6 +1,6 @@
--- refine.rs, `localize_edge_point` (377 to 416) as a call: the entry checks 1, 2 and 6, then the
--- point, or 19 where there is none. Definitions only, to be believed; the point's passes are in
--- `profile`.
+-- refine.rs, `localize_edge_point` (377 to 416) as a call: the checks of photograph and
+-- camera, then the point, or `Profile` where there is none. Definitions only, to be believed; the
+-- point's passes are in `profile`.
 use Rattle.std.specs.Prelude.{ℕ, List, [], ◌∷◌, ◌++◌, length, Result, ok_or}
 use Rattle.std.specs.Result.{result_and}
 use Rattle.prelude.specs.Checks.{check, first}
@@ -15,7 +15,7 @@ use Rattle.sample_tree.specs.SampleTree.{value}
 use Rattle.profile.specs.declared.Ray.{Ray}
 use Rattle.profile.specs.Profile.{localize}
 
--- checks 1, 2 and 6
+-- the checks of the photograph, and of its camera
 abbrev pub view_check : List ℕ → ℕ → Scene → Result (Unit {0}) Refusal
 view_check bytes stride e = first (photograph_checks e.width e.height stride (length bytes) ++ check refusal.Lens (good_view e.view) ∷ [])
 

@@ -1,4 +1,4 @@
-// refine.rs, `localize_edge_point` as a call: checks 1, 2 and 6, then the point, or 19 without one.
+// refine.rs, `localize_edge_point` as a call: the checks of photograph and camera, then the point, or `Profile`.
 #![tactic(auto)]
 
 ghost use Rattle.std.specs.Prelude.{◌≡◌};
@@ -11,7 +11,7 @@ use pixel::EdgePoint;
 use profile::Ray;
 use sample_tree::{Meter, Sampler};
 
-// Checks 1, 2 and 6: the photograph, and its camera.
+// The checks of the photograph, `Size` and `Photograph`, and of its camera, `Lens`.
 fn check_view(photograph: Photograph, scene: Scene) -> Result<(), Refusal>
     ensures { result ≡ view_check photograph.entry.bytes.now photograph.entry.stride scene }
 {
@@ -33,14 +33,12 @@ pub fn localize_edge_point(
     ensures { result ≡ localize_edge_point photograph.entry.bytes.now photograph.entry.stride scene ray }
 {
     check_view(photograph, scene)?;
-    let mut unmarked = [0u8; 0];
-    let mut uncopied = [0u8; 0];
     let mut sampler = Sampler {
         photograph,
         scene,
-        sheet: &mut unmarked,
-        copy: &mut uncopied,
-        meter: Meter { tried: 0 },
+        sheet: &mut [],
+        copy: &mut [],
+        meter: Meter::default(),
     };
     let point = profile::localize(&mut sampler, consts::defaults(), ray);
     point.ok_or(Refusal::Profile)

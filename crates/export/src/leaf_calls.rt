@@ -53,7 +53,7 @@ pub extern "C" fn trufolmesca_rectified_to_source(
 ) -> u32
     ensures value { result ≡ number_of (camera_answer (camera_of camera.now lens) (source x y)) }
     ensures place_after { place.new ≡ with_place
-        (result_unwrap_or (camera_answer (camera_of camera.now lens) (source x y)) (source f0 f0)) place.old }
+        (result_unwrap_or (camera_answer (camera_of camera.now lens) (source x y)) zero_place) place.old }
 {
     c_samples::rectified_to_source(camera, lens, x, y, place)
 }

@@ -6,7 +6,7 @@ use native.Mathlib.Omega.{arith}
 use mathlib.Core.Bool.{Bool, true, false}
 use mathlib.Core.List.{List, [], ◌∷◌, ◌++◌, append-nil}
 use lib.ListN.{length, take, set}
-use lib.Seq.{take-suc, take-suc-set, take-set-le, length-take-le, take_all}
+use lib.Seq.{take-suc, take-suc-set, take-set-le, length-take-le}
 use lib.Ieee.{Float, nan}
 use Rattle.prelude.specs.Prelude.{when◌then◌else◌}
 use Rattle.ieee.specs.Floats.{◌≼◌}

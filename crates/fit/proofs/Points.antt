@@ -21,7 +21,6 @@ use Rattle.line.specs.declared.Line2.{Line2}
 use Rattle.line_fit.specs.declared.Points.{Points}
 use Rattle.fit.specs.Lent.{edge_points}
 use Rattle.fit.specs.Fit.{points_of, fit_points, residual, residuals, inliers, stat, edge_fit, lined, refit, first_fit, fit_edge}
-use Rattle.fit.proofs.Inliers.{inliers_fewer}
 
 -- ---- three lists of one length, element by element
 
@@ -153,9 +152,6 @@ module _ (ps : Points) where
 module _ (most : Float) (rs : List Float) (ps : Points) (a b d : List Float) (p : a ≡ inliers most rs ps.xs.now) (q : b ≡ inliers most rs ps.ys.now) (r : d ≡ inliers most rs ps.weights.now) where
   pub kept_alike : (length b ≡ length a) × (length d ≡ length a)
   kept_alike = rw (p, q, r) (same_lengths (inliers_alike most rs (lent ps)))
-
-  pub kept_fewer : length a ≤ length ps.xs.now
-  kept_fewer = rw p (inliers_fewer most rs ps.xs.now)
 
   pub kept-points : points_of a b d ≡ inliers most rs (edge_points ps)
   kept-points = rw (p, q, r) (inliers-points most rs (lent ps))

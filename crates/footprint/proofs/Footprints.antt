@@ -1,7 +1,8 @@
 -- Where a sample falls, by the tests on the way: what each test of the code says of the definition. Each law unfolds the definition and
 -- puts the tests' results in. Assumes nothing.
 use mathlib.Core.Path.{◌≡◌, refl, sym, ◌∙◌}
-use Prim.Native.Nat.{ℕ, ◌^◌, ◌<◌}
+use Prim.Native.Nat.{ℕ, ◌-◌, ◌^◌, ◌<◌}
+use native.Mathlib.Omega.{arith}
 use mathlib.Core.Bool.{Bool, true, false, not, ◌&&◌, ◌||◌, and-false, true≢false}
 use lib.Ieee.{Float, of_bits}
 use borrow.Author.Tests.{not-true, not-false}
@@ -48,6 +49,11 @@ gathered true true false false true d = refl
 gathered true true false false false d = refl
 gathered true false a b c d = and-false (true && not a && not c)
 gathered false g a b c d = refl
+
+-- so four comparisons say whether a place is inside, as the definition asks it
+pub inside_is : (w h : ℕ) → w < 2 ^ 32 → h < 2 ^ 32 → (x y : Float) → (((f0 ≼ x) && (x ≼ float (w - 1))) && ((f0 ≼ y) && (y ≼ float (h - 1)))) ≡ inside w h x y
+inside_is w h wide high x y =
+    rw (between (w - 1) (omega arith) x, between (h - 1) (omega arith) y) (gathered (is_finite x) (is_finite y) (x ≺ f0) (y ≺ f0) (float (w - 1) ≺ x) (float (h - 1) ≺ y))
 
 -- ---- the footprint
 

@@ -68,7 +68,7 @@ viewed_footprint w h (Some c) q = point_footprint w h (rectified_to_source c q)
 abbrev pub scene_footprint : Scene → SourcePixel → Footprint
 scene_footprint s q = viewed_footprint s.width s.height s.view q
 
--- check 6
+-- the entry check by `Lens`
 abbrev pub good_view : View → Bool
 good_view None = true
 good_view (Some c) = valid_camera c

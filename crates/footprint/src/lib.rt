@@ -85,19 +85,20 @@ struct Size {
 impl Size {
     // Whether a place lies within the pixels' centres.
     #[tactic(auto, using(crate::proofs::Footprints::gathered))]
-    fn is_inside(self, x: f64, y: f64) -> bool
-        ensures { result ≡ inside self.width self.height x y }
+    fn is_inside(self, p: SourcePixel) -> bool
+        ensures { result ≡ inside self.width self.height p.0 p.1 }
     {
-        is_within(x, photograph::last(self.width)) && is_within(y, photograph::last(self.height))
+        is_within(p.0, photograph::last(self.width))
+            && is_within(p.1, photograph::last(self.height))
     }
 
     // The four pixels that a place inside the picture falls among, as far as they bear weight, and its
     // fractions.
-    fn interior_cell(self, x: f64, y: f64) -> Footprint
-        ensures { result ≡ interior_cell self.width self.height x y }
+    fn interior_cell(self, p: SourcePixel) -> Footprint
+        ensures { result ≡ interior_cell self.width self.height p.0 p.1 }
     {
-        let across = ieee_whole::split_whole(x);
-        let down = ieee_whole::split_whole(y);
+        let across = ieee_whole::split_whole(p.0);
+        let down = ieee_whole::split_whole(p.1);
         Footprint::Cell {
             x0: across.whole,
             y0: down.whole,
@@ -110,15 +111,15 @@ impl Size {
 
     // Where a sample outside falls.
     #[tactic(auto, using(crate::proofs::Places::from_zero))]
-    fn at_border(self, border: BorderMode, x: f64, y: f64) -> Footprint
-        ensures { result ≡ at_border self.width self.height border x y }
+    fn at_border(self, border: BorderMode, p: SourcePixel) -> Footprint
+        ensures { result ≡ at_border self.width self.height border p.0 p.1 }
     {
         match border {
             BorderMode::Reject => Footprint::Rejected,
-            BorderMode::Clamp => self.interior_cell(
-                x.clamp(0.0, photograph::last(self.width) as f64),
-                y.clamp(0.0, photograph::last(self.height) as f64),
-            ),
+            BorderMode::Clamp => self.interior_cell(SourcePixel(
+                p.0.clamp(0.0, photograph::last(self.width) as f64),
+                p.1.clamp(0.0, photograph::last(self.height) as f64),
+            )),
             BorderMode::Constant(v) => Footprint::Border(v),
         }
     }
@@ -126,12 +127,12 @@ impl Size {
     // The four pixels around a place inside whose coordinates both lie between whole numbers: all four
     // bear weight, and neither the column nor the row is the last.
     #[tactic(auto, using(crate::proofs::Inner::inner_places))]
-    fn inner_cell(self, x: f64, y: f64) -> Option<Footprint>
-        requires { inside self.width self.height x y ≡ true }
-        ensures { IfSome result (λ cell. cell ≡ interior_cell self.width self.height x y) }
+    fn inner_cell(self, p: SourcePixel) -> Option<Footprint>
+        requires { inside self.width self.height p.0 p.1 ≡ true }
+        ensures { IfSome result (λ cell. cell ≡ interior_cell self.width self.height p.0 p.1) }
     {
-        let across = ieee_whole::split_between(x)?;
-        let down = ieee_whole::split_between(y)?;
+        let across = ieee_whole::split_between(p.0)?;
+        let down = ieee_whole::split_between(p.1)?;
         Some(Footprint::Cell {
             x0: across.whole,
             y0: down.whole,
@@ -143,34 +144,36 @@ impl Size {
     }
 
     // Where a sample falls with the border rejected. Nearly always both coordinates lie between whole
-    // numbers, so that is asked first.
+    // numbers, so that is asked first. By a match: with `unwrap_or_else` it took twice as long.
     #[tactic(auto, using(crate::proofs::Footprints::in_within, crate::proofs::Footprints::rejected))]
-    fn rejecting_footprint(self, x: f64, y: f64) -> Footprint
-        ensures { result ≡ footprint_of self.width self.height Reject x y }
+    fn rejecting_footprint(self, p: SourcePixel) -> Footprint
+        ensures { result ≡ footprint_of self.width self.height Reject p.0 p.1 }
     {
-        if !self.is_inside(x, y) {
+        if !self.is_inside(p) {
             return Footprint::Rejected;
         }
-        match self.inner_cell(x, y) {
+        match self.inner_cell(p) {
             Some(cell) => cell,
-            None => self.interior_cell(x, y),
+            None => self.interior_cell(p),
         }
     }
 }
 
-// Where a sample falls. Nearly all fall inside, so that is asked first; the order of the tests does not show.
+// Where a sample falls. Nearly all fall inside, so that is asked first; the order of the tests does not show. Width and
+// height go side by side, as `photograph` says.
 #[tactic(auto, using(crate::proofs::Footprints::in_within, crate::proofs::Footprints::off_outside), unfolding(crate::specs::Footprints::footprint))]
 pub fn footprint_at(width: u32, height: u32, border: BorderMode, x: f64, y: f64) -> Footprint
     ensures { result ≡ footprint_of width height border x y }
 {
     let size = Size { width, height };
-    if size.is_inside(x, y) {
-        return size.interior_cell(x, y);
+    let p = SourcePixel(x, y);
+    if size.is_inside(p) {
+        return size.interior_cell(p);
     }
     if !ieee::is_finite(x) || !ieee::is_finite(y) {
         return Footprint::Rejected;
     }
-    size.at_border(border, x, y)
+    size.at_border(border, p)
 }
 
 // A place seen through a camera. The camera's tests and steps stand here one by one: a call that takes the whole
@@ -208,12 +211,12 @@ pub fn source_footprint(scene: Scene, p: SourcePixel) -> Footprint
         height: scene.height,
     };
     match through_view(scene.view, p) {
-        Some(q) => size.rejecting_footprint(q.0, q.1),
+        Some(q) => size.rejecting_footprint(q),
         None => Footprint::Rejected,
     }
 }
 
-// ---- entry check 6
+// ---- the entry check by `Lens`
 
 // Whether there is no camera, or one that is not refused by `Lens`.
 pub fn good_view(view: View) -> bool

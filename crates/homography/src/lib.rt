@@ -26,7 +26,8 @@ pub struct PerspectiveTransform {
 struct Column(f64, f64, f64);
 
 impl PerspectiveTransform {
-    // Where (u, v) goes. On the map's horizon w is 0 and the place infinite or a NaN: the callers test what they use.
+    // Where (u, v) goes, two numbers as in the Rust. On the map's horizon w is 0 and the place infinite or a NaN: the
+    // callers test what they use.
     pub fn map(self, u: f64, v: f64) -> SourcePixel
         ensures { result ≡ map_point self u v }
     {
@@ -37,7 +38,7 @@ impl PerspectiveTransform {
         )
     }
 
-    // (u, v) to (sx u, sy v).
+    // (u, v) to (sx u, sy v). Two numbers, as in the Rust.
     pub fn scaled(sx: f64, sy: f64) -> PerspectiveTransform
         ensures { result ≡ scaled sx sy }
     {

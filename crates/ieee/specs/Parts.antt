@@ -1,6 +1,6 @@
 -- What the functions of `ieee` compute: Rust's `abs`, `is_finite` and `max` of `f64`. Definitions only, to be
 -- believed.
--- A value is one of `lib.Ieee`: `nan`, an infinity `inf s`, or `fin s m e`, the number m * 2 ^ e,
+-- A value is one of the library's `Float`: `nan`, an infinity `inf s`, or `fin s m e`, the number m * 2 ^ e,
 -- negative where s is true; 2 ^ e is the fraction up e / down e.
 use Rattle.std.specs.Prelude.{Bool, true, false, Float}
 use Rattle.std.specs.Float.{nan, inf, fin}

@@ -1,6 +1,6 @@
 -- IEEE 754's square root, Rust's `f64::sqrt`, through squares of whole numbers. Definitions only, to
 -- be believed; `NearRoot` is internal, what the inner functions promise of a whole number's root.
--- A value is one of `lib.Ieee`, a format f one of its two: `prec f` is how many binary digits it
+-- A value is one of the library's `Float`, a format f one of its two: `prec f` is how many binary digits it
 -- keeps, and 2 ^ -low f is its smallest value, the unit that is counted in here. That `root` is the
 -- nearest value of the format to the true root is a theorem, `root-nearest` of proofs/RootNearest.
 use Prim.Native.Nat.{ℕ, zero, suc, ◌+◌, ◌-◌, ◌*◌, ◌/◌, ◌^◌, ◌≤◌, ◌<◌, compare}

@@ -6,6 +6,13 @@ ghost use Rattle.std.specs.Prelude.{◌≡◌, ◌+◌, ◌*◌, ◌^◌, ◌≤
 ghost use Rattle.std.specs.Float.{binary64};
 ghost use Rattle.ieee_root.specs.Root.{root, root_units, NearRoot};
 
+// A number of 53 binary digits, as a normal value has.
+#[derive(Clone, Copy)]
+struct Mantissa {
+    digits: u64,
+    ghost normal: { (2 ^ 52 ≤ digits) × (digits < 2 ^ 53) },
+}
+
 // The square root of x.
 pub fn sqrt(x: f64) -> f64
     ensures { result ≡ root binary64 x }
@@ -14,13 +21,14 @@ pub fn sqrt(x: f64) -> f64
         let b = f64::to_bits(x);
         if b < 0x10_0000_0000_0000 {
             let s = u64::leading_zeros(b) - 11;
-            return scaled_root(b << s, 1074 - (s as u64));
+            return scaled_root(Mantissa { digits: b << s }, 1074 - (s as u64));
         }
         let g = b >> 52;
         if g == 2047 {
             return x;
         }
-        return scaled_root((b & 0xf_ffff_ffff_ffff) | 0x10_0000_0000_0000, g + 1073);
+        let digits = (b & 0xf_ffff_ffff_ffff) | 0x10_0000_0000_0000;
+        return scaled_root(Mantissa { digits }, g + 1073);
     }
     if x == 0.0 {
         return x;
@@ -29,10 +37,9 @@ pub fn sqrt(x: f64) -> f64
 }
 
 // The root of m * 2^g, both in units of 2^-1074.
-fn scaled_root(m: u64, g: u64) -> f64
-    requires mantissa { (2 ^ 52 ≤ m) × (m < 2 ^ 53) }
+fn scaled_root(m: Mantissa, g: u64) -> f64
     requires exponent { (1022 ≤ g) × (g < 3121) }
-    ensures { result ≡ root_units binary64 (m * 2 ^ g) }
+    ensures { result ≡ root_units binary64 (m.digits * 2 ^ g) }
 {
     let r = rounded_root(m, g % 2);
     f64::from_bits(((g / 2 - 26) << 52) + r)
@@ -41,13 +48,12 @@ fn scaled_root(m: u64, g: u64) -> f64
 // The whole number nearest to the square root of n = m * 2^p * 2^52. With t two below the guess it is
 // t + i where n is above (t + i - 1) * (t + i) and at most (t + i) * (t + i + 1): mostly at i = 2.
 // Where i is none of 1 to 3, which no run has shown, the digits are worked out one by one.
-fn rounded_root(m: u64, p: u64) -> u64
-    requires mantissa { (2 ^ 52 ≤ m) × (m < 2 ^ 53) }
+fn rounded_root(m: Mantissa, p: u64) -> u64
     requires parity { p < 2 }
-    ensures { NearRoot (m * 2 ^ p * 2 ^ 52) result }
+    ensures { NearRoot (m.digits * 2 ^ p * 2 ^ 52) result }
 {
-    let a = m << p;
-    let t = guess(m, p) - 2;
+    let a = m.digits << p;
+    let t = guess(m, p).digits - 2;
     // t * t is hi * 2^52 + lo
     let u = t >> 26;
     let l = t & 0x3ff_ffff;
@@ -74,12 +80,10 @@ fn rounded_root(m: u64, p: u64) -> u64
 // what x's bit pattern gives, which is within 3.5 %. The first step's 1.5 is raised by half of the
 // most that it would fall short. Then s = x * y is off by the factor whose square is 1 - u, and g
 // is s divided by it, to the second order.
-fn guess(m: u64, p: u64) -> u64
-    requires mantissa { (2 ^ 52 ≤ m) × (m < 2 ^ 53) }
+fn guess(m: Mantissa, p: u64) -> Mantissa
     requires parity { p < 2 }
-    ensures { (2 ^ 52 ≤ result) × (result < 2 ^ 53) }
 {
-    let i = ((1074 + p) << 52) + m;
+    let i = ((1074 + p) << 52) + m.digits;
     let x = f64::from_bits(i);
     let h = x * 0.5;
     let y0 = f64::from_bits(0x5fe6_eb50_c7b5_37a9 - (i >> 1));
@@ -88,7 +92,8 @@ fn guess(m: u64, p: u64) -> u64
     let s = x * y;
     let u = 1.0 - s * y;
     let g = s + s * u * (0.5 + 0.375 * u);
-    (ieee::bits_of(g * 67108864.0) & 0xf_ffff_ffff_ffff) | 0x10_0000_0000_0000
+    let digits = (ieee::bits_of(g * 67108864.0) & 0xf_ffff_ffff_ffff) | 0x10_0000_0000_0000;
+    Mantissa { digits }
 }
 
 // The whole number nearest to the square root of a * 2^52, by the digits of the root from the

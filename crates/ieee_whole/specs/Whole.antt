@@ -1,5 +1,5 @@
 -- What the functions of `ieee_whole` compute: Rust's `floor`, `ceil` and `as u32` of `f64`. Definitions only, to be
--- believed. A value is one of `lib.Ieee`: `nan`, an infinity `inf s`, or `fin s m e`, the number m * 2 ^ e, negative
+-- believed. A value is one of the library's `Float`: `nan`, an infinity `inf s`, or `fin s m e`, the number m * 2 ^ e, negative
 -- where s is true; 2 ^ e is the fraction up e / down e.
 use Rattle.std.specs.Prelude.{ℕ, ◌+◌, ◌-◌, ◌*◌, ◌/◌, cond, ◌&&◌, Float, Option, Some, None}
 use Rattle.std.specs.Float.{nan, inf, fin, binary64}

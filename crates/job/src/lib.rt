@@ -2,7 +2,7 @@
 #![tactic(auto)]
 
 ghost use Rattle.std.specs.Prelude.{◌≡◌, ◌<◌, drop};
-ghost use Rattle.request.specs.Requests.{photograph as lent};
+ghost use Rattle.request.specs.Requests.{lent};
 ghost use Rattle.job.specs.Job.{
   working_at,
   intrinsics_at,
@@ -145,7 +145,7 @@ pub fn stride_of(card: &[u8]) -> u32
 
 // The photograph of a well formed card.
 pub fn photograph_of(card: &[u8]) -> Photograph<'_>
-    ensures { lent result.bytes.now result.stride ≡ photograph_of card.now }
+    ensures { lent result ≡ photograph_of card.now }
 {
     Photograph {
         bytes: part(card, 2),

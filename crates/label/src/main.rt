@@ -22,8 +22,9 @@ fn read_input(stdin: &mut Stdin, buffer: &mut [u8]) -> std::io::Result<usize>
     Ok(n)
 }
 
-// The buffer holds one byte more than the longest card, so that an over-long one is seen. What fails is said on standard error, and
-// after a read that failed nothing is printed; the exit status is 0 in each case.
+// The buffer holds one byte more than the longest card, so that an over-long one is seen; the text is one of fixed size, as
+// there is no heap. What fails is said on standard error, and after a read that failed nothing is printed; the exit status is
+// 0 in each case.
 fn main(rt: HostRuntime) {
     let mut stdin = rt.stdin();
     let mut buffer = io::large_buffer();

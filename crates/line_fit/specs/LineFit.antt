@@ -35,7 +35,7 @@ principal_direction m =
     let h = root binary64 (a ⊗ a ⊕ b ⊗ b) in
     when h ≐ f0 then direction f1 f0 else half_angle_direction a b h
 
--- ---- `fit_line_tls_weighted`: 13, 14, 15, the sum of 16, a negative weight of 16, 10, 11
+-- ---- `fit_line_tls_weighted`: by `Points`, `Pairing`, `Finite`, `Weight` for the sum or for one below 0, `Line`, `Overflow`
 
 abbrev pub finite_place : SourcePixel → Bool
 finite_place p = is_finite p.0 && is_finite p.1

@@ -158,8 +158,8 @@ impl<'a> Points<'a> {
     }
 }
 
-// The line through the points (x, y) with these weights.
-pub fn fit_line(xs: &[f64], ys: &[f64], weights: &[f64]) -> Result<Line2, Refusal>
+// The line through the points (x, y) with these weights. Three lists, as C and the Rust lend them.
+pub fn fit_line_tls_weighted(xs: &[f64], ys: &[f64], weights: &[f64]) -> Result<Line2, Refusal>
     ensures { result ≡ fit_line xs.now ys.now weights.now }
 {
     if xs.len() < 2 || ys.len() < 2 {

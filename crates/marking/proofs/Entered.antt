@@ -1,4 +1,4 @@
--- The entry checks of a marking call: the seventh comes behind those of the refinement call, and which calls pass all. Assumes nothing.
+-- The entry checks of a marking call: `Sheet` comes behind those of the refinement call, and which calls pass all. Assumes nothing.
 use mathlib.Core.Path.{◌≡◌, ◌∙◌}
 use mathlib.Core.Logic.{◌⊎◌, inl, inr}
 use Prim.Native.Nat.{ℕ, ◌≤◌, ◌<◌}
@@ -33,11 +33,11 @@ module _ (r : Request) (ms : List ℕ) (p : Photograph) (s c : ℕ) where
   pub enters_marking : entry r ms p ≡ Ok tt → area r ≤ s → area r ≤ c → marking_entry r ms p s c ≡ Ok tt
   enters_marking h hs hc = marking-entry h ∙ rw (le-leb (area r) s hs, le-leb (area r) c hc)
 
-  -- refused by one of the first six
+  -- refused by one of the refinement call's
   pub refused_before : {e : Refusal} → entry r ms p ≡ Err e → marking_entry r ms p s c ≡ Err e
   refused_before h = refused_first (entry_checks r ms p) (check refusal.Sheet (leb (area r) s && leb (area r) c) ∷ []) _ h
 
-  -- refused by the seventh, for the sheet or for the copy
+  -- refused by `Sheet`, for the sheet or for the copy
   pub short : entry r ms p ≡ Ok tt → (s < area r) ⊎ ((area r ≤ s) × (c < area r)) → marking_entry r ms p s c ≡ Err refusal.Sheet
   short h (inl sheet) = marking-entry h ∙ rw (lt-leb (area r) s sheet)
   short h (inr both) = marking-entry h ∙ rw (le-leb (area r) s both.0, lt-leb (area r) c both.1)

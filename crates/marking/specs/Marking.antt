@@ -1,4 +1,4 @@
--- The marking calls: entry check 7, what they return, and what they leave in the sheet and the copy
+-- The marking calls: the entry check by `Sheet`, what they return, and what they leave in the sheet and the copy
 -- that they are lent. Definitions only, to be believed; `RunsMarked` and `Ready` are internal, what
 -- the function behind the checks promises and asks.
 use Rattle.std.specs.Prelude.{◌≡◌, ℕ, ◌*◌, ◌≤◌, true, ◌&&◌, List, [], ◌∷◌, ◌++◌, leb, length, drop, Result, is_ok}
@@ -20,7 +20,7 @@ use Rattle.refine.specs.Refine.{result, reads_of}
 abbrev pub area : Request → ℕ
 area r = r.width * r.height
 
--- the entry checks, 1 to 7, with a sheet and a copy of so many bytes
+-- the entry checks, `Sheet` the last, with a sheet and a copy of so many bytes
 abbrev pub marking_entry : Request → List ℕ → Photograph → ℕ → ℕ → Result (Unit {0}) Refusal
 marking_entry r ms p sheet_bytes copy_bytes = first (entry_checks r ms p ++ check refusal.Sheet (leb (area r) sheet_bytes && leb (area r) copy_bytes) ∷ [])
 

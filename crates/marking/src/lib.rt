@@ -1,8 +1,8 @@
 // The marking calls: a refinement that also writes which pixels it read, and a copy of the photograph with all others blanked.
 #![tactic(auto)]
 
-ghost use Rattle.photograph.specs.Photographs.{photo};
-ghost use Rattle.request.specs.Requests.{photograph as lent, plain, scene_of};
+ghost use Rattle.photograph.specs.Photographs.{photo_of};
+ghost use Rattle.request.specs.Requests.{lent, plain, scene_of};
 ghost use Rattle.refine.specs.Refine.{refinement};
 ghost use Rattle.marking.specs.Marking.{Marks, Ready, RunsMarked};
 
@@ -12,9 +12,10 @@ use photograph::Photograph;
 use request::Request;
 use sample_tree::{Meter, Sampler};
 
-// `refine::refine_corners`, marked. Sheet and copy are lent width × height bytes or more, in rows of width bytes. Refused by 1 to 7 it
-// writes nothing; otherwise, also where it is refused for another reason, it writes the first width × height bytes of both.
-// Two calls, as those of `refine`.
+// `refine::refine_corners`, marked. Sheet and copy are lent width × height bytes or more, in rows of width bytes. Refused
+// by an entry check, `Size` to `Sheet`, it writes nothing; otherwise, also where it is refused for another reason, it
+// writes the first width × height bytes of both. Two calls, as those of `refine`, and two buffers, as document 01 lends
+// them.
 pub fn refine_corners_marking(
     photograph: Photograph,
     modules: &[u8],
@@ -23,13 +24,13 @@ pub fn refine_corners_marking(
     copy: &mut [u8],
 ) -> Answer
     ensures { Marks (plain request) modules.now
-        (lent photograph.entry.bytes.now photograph.entry.stride) result
+        (lent photograph.entry) result
         sheet.old sheet.new copy.old copy.new }
 {
     refine_corners_mapped_marking(photograph, modules, request.plain(), sheet, copy)
 }
 
-// The same, as seen through the camera where there is one: the entry checks, the seventh last, and behind them the run.
+// The same, as seen through the camera where there is one: the entry checks, `Sheet` the last, and behind them the run.
 pub fn refine_corners_mapped_marking(
     photograph: Photograph,
     modules: &[u8],
@@ -38,7 +39,7 @@ pub fn refine_corners_mapped_marking(
     copy: &mut [u8],
 ) -> Answer
     ensures { Marks request modules.now
-        (lent photograph.entry.bytes.now photograph.entry.stride) result
+        (lent photograph.entry) result
         sheet.old sheet.new copy.old copy.new }
 {
     request::entry(photograph, modules, request)?;
@@ -59,7 +60,7 @@ fn marking_run(
 ) -> Answer
     requires { Ready request sheet.old copy.old }
     ensures { RunsMarked (scene_of request)
-        (photo photograph.entry.bytes.now photograph.entry.stride)
+        (photo_of photograph.entry)
         (refinement request modules.now) result
         sheet.old sheet.new copy.old copy.new }
 {
@@ -71,7 +72,7 @@ fn marking_run(
         scene: request.scene(),
         sheet,
         copy,
-        meter: Meter { tried: 0 },
+        meter: Meter::default(),
     };
     refine::refine_entered(&mut sampler, modules, request)
 }

@@ -1,5 +1,6 @@
 -- A refusal's number is never an answer's, and tells which refusal it is. By cases. Assumes nothing.
 use Rattle.std.proofs.Common.{◌≡◌, ℕ, ◌<◌, refl, sym, ◌∙◌, ap}
+use native.Mathlib.Omega.{arith}
 use Rattle.std.specs.Prelude.{◌-◌, List, [], ◌∷◌, get_or}
 use Rattle.number.specs.Numbers.{number}
 use Rattle.number.specs.declared.Refusal.{Refusal}
@@ -35,6 +36,29 @@ back Outside = refl
 back Parallel = refl
 back Profile = refl
 back Place = refl
+
+-- no refusal has the number of an answer
+pub number_positive : (r : Refusal) → 0 < number r
+number_positive Size = omega arith
+number_positive Photograph = omega arith
+number_positive Grid = omega arith
+number_positive Scale = omega arith
+number_positive Corner = omega arith
+number_positive Lens = omega arith
+number_positive Sheet = omega arith
+number_positive Quad = omega arith
+number_positive Thin = omega arith
+number_positive Line = omega arith
+number_positive Overflow = omega arith
+number_positive Card = omega arith
+number_positive Points = omega arith
+number_positive Pairing = omega arith
+number_positive Finite = omega arith
+number_positive Weight = omega arith
+number_positive Outside = omega arith
+number_positive Parallel = omega arith
+number_positive Profile = omega arith
+number_positive Place = omega arith
 
 -- two refusals of one number are the same
 pub number_tells : (r s : Refusal) → number r ≡ number s → r ≡ s

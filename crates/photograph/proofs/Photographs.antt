@@ -1,4 +1,4 @@
--- Checks 1 and 2 of a photograph: what the first says as inequalities, that both pass where the photograph is not refused, and that rows which stand one behind the other,
+-- The checks of a photograph, of its size and of its bytes: what the first says as inequalities, that both pass where the photograph is not refused, and that rows which stand one behind the other,
 -- with no bytes between, pass the second. Assumes nothing.
 use mathlib.Core.Path.{◌≡◌, ap, ◌∙◌, subst}
 use Prim.Native.Nat.{ℕ, suc, ◌+◌, ◌-◌, ◌*◌, ◌≤◌, ◌<◌}
@@ -12,7 +12,7 @@ use Rattle.prelude.proofs.Checks.{ok_exactly}
 use Rattle.prelude.proofs.Tests.{both}
 use Rattle.photograph.specs.Photographs.{sized, good_size, good_photograph, photograph_checks, photograph_check}
 
--- what check 1 says of a size
+-- what the check of a size says
 pub record Sized (w h : ℕ) : Type 0 where
   pub wide : 0 < w
   pub high : 0 < h
@@ -35,7 +35,7 @@ good_photograph_lem w h stride bytes e =
     let all = both (good_size w h) (good_photograph w h stride bytes && true) ((ok_exactly (photograph_checks w h stride bytes)).0 e) in
     (all.0, (both (good_photograph w h stride bytes) true all.1).0)
 
--- width × height bytes or more, in rows of width bytes, pass check 2
+-- width × height bytes or more, in rows of width bytes, pass the check of its bytes
 pub good_rows : (w h n : ℕ) → Sized w h → w * h ≤ n → good_photograph w h w n ≡ true
 good_rows w h n size enough =
     let last : h ≡ suc (h - 1) = omega (arith, size.high) in

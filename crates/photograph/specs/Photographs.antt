@@ -3,6 +3,7 @@ use Rattle.std.specs.Prelude.{ℕ, ◌+◌, ◌-◌, ◌*◌, Bool, ◌&&◌, Li
 use Rattle.prelude.specs.Checks.{Check, check, first}
 use Rattle.number.specs.declared.Refusal.{Refusal}
 use Rattle.number.specs.declared.Refusal.TheVariants as refusal
+use Rattle.photograph.specs.declared.Photograph.{Photograph}
 
 -- what a photograph shows at a column and a row
 abbrev pub Photo : Type 0
@@ -12,6 +13,10 @@ Photo = ℕ → ℕ → ℕ
 abbrev pub photo : List ℕ → ℕ → Photo
 photo bytes stride x y = get_or bytes (y * stride + x) 0
 
+-- what one that is lent shows
+abbrev pub photo_of : Photograph → Photo
+photo_of p = photo p.bytes.now p.stride
+
 pub record Pixel : Type 0 where
   pub column : ℕ
   pub row : ℕ
@@ -19,7 +24,7 @@ pub record Pixel : Type 0 where
 abbrev pub pixel : ℕ → ℕ → Pixel
 pixel x y = record { column = x; row = y }
 
--- ---- entry checks 1 and 2
+-- ---- the entry checks of a photograph
 
 abbrev pub sized : ℕ → Bool
 sized n = leb 1 n && leb n 16384

@@ -2,7 +2,7 @@
 #![tactic(auto)]
 
 ghost use Rattle.std.specs.Prelude.{◌≡◌, ◌+◌, ◌-◌, ◌*◌, length};
-ghost use Rattle.photograph.specs.Photographs.{photo, sized as sized_by, good_size, good_photograph, photograph_check};
+ghost use Rattle.photograph.specs.Photographs.{photo_of, sized as sized_by, good_size, good_photograph, photograph_check};
 
 use number::Refusal;
 
@@ -35,7 +35,7 @@ pub fn place(stride: u32, x: u32, y: u32) -> usize
     (y as usize) * (stride as usize) + (x as usize)
 }
 
-// ---- entry checks 1 and 2
+// ---- the entry checks of a photograph
 
 // Whether a width or a height is within its limits.
 fn sized(n: u32) -> bool
@@ -44,7 +44,7 @@ fn sized(n: u32) -> bool
     n >= 1 && n <= MAX_SIDE
 }
 
-// Whether width and height are within their limits.
+// Whether width and height are within their limits. They go side by side as in the Rust, whose calls take the two.
 fn good_size(width: u32, height: u32) -> bool
     ensures { result ≡ good_size width height }
 {
@@ -58,10 +58,23 @@ fn good_photograph(width: u32, height: u32, stride: u32, bytes: usize) -> bool
     stride >= width && stride <= MAX_STRIDE && place(stride, width, last(height)) <= bytes
 }
 
+// Whether so many bytes are a photograph of this width and height: `Size`, then `Photograph`.
+pub fn photograph_check(width: u32, height: u32, stride: u32, bytes: usize) -> Result<(), Refusal>
+    ensures { result ≡ photograph_check width height stride bytes }
+{
+    if !good_size(width, height) {
+        return Err(Refusal::Size);
+    }
+    if !good_photograph(width, height, stride, bytes) {
+        return Err(Refusal::Photograph);
+    }
+    Ok(())
+}
+
 impl<'a> Photograph<'a> {
     // A pixel of the photograph; 0 past its end.
     pub fn pixel_at(self, x: u32, y: u32) -> u8
-        ensures { result ≡ photo self.entry.bytes.now self.entry.stride x y }
+        ensures { result ≡ photo_of self.entry x y }
     {
         self.bytes
             .get(place(self.stride, x, y))
@@ -69,16 +82,10 @@ impl<'a> Photograph<'a> {
             .unwrap_or(0)
     }
 
-    // Checks 1 and 2 of a photograph of this width and height.
+    // Whether this is a photograph of this width and height.
     pub fn check(self, width: u32, height: u32) -> Result<(), Refusal>
         ensures { result ≡ photograph_check width height self.entry.stride (length self.entry.bytes.now) }
     {
-        if !good_size(width, height) {
-            return Err(Refusal::Size);
-        }
-        if !good_photograph(width, height, self.stride, self.bytes.len()) {
-            return Err(Refusal::Photograph);
-        }
-        Ok(())
+        photograph_check(width, height, self.stride, self.bytes.len())
     }
 }

@@ -30,7 +30,7 @@ pub struct EdgePoint {
 
 impl WorkingPixel {
     // The only way from one scale to the other: sx and sy are working pixels for each source pixel, or with a camera
-    // for each rectified pixel.
+    // for each rectified pixel. Two numbers, as in the Rust.
     pub fn to_source(self, sx: f64, sy: f64) -> SourcePixel
         ensures { result ≡ to_source sx sy self }
     {

@@ -10,10 +10,10 @@ pub length-table : (n : ℕ) (f : ℕ → ℕ) → length (table n f) ≡ n
 length-table zero f = refl
 length-table (suc n) f = ap suc (length-table n (λ k. f (suc k)))
 
-pub getD_table : (n : ℕ) (f : ℕ → ℕ) (i d : ℕ) → i < n → get_or (table n f) i d ≡ f i
-getD_table zero f i d h = absurd (not-suc-le-zero h)
-getD_table (suc n) f zero d h = refl
-getD_table (suc n) f (suc i) d h = getD_table n (λ k. f (suc k)) i d (le_of_suc-le-suc h)
+pub get_or-table : (n : ℕ) (f : ℕ → ℕ) (i d : ℕ) → i < n → get_or (table n f) i d ≡ f i
+get_or-table zero f i d h = absurd (not-suc-le-zero h)
+get_or-table (suc n) f zero d h = refl
+get_or-table (suc n) f (suc i) d h = get_or-table n (λ k. f (suc k)) i d (le_of_suc-le-suc h)
 
 pub table_ext : (n : ℕ) (f g : ℕ → ℕ) → ((i : ℕ) → i < n → f i ≡ g i) → table n f ≡ table n g
 table_ext zero f g h = refl

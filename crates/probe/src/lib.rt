@@ -5,6 +5,7 @@ ghost use Rattle.std.specs.Prelude.{◌≡◌};
 ghost use Rattle.probe.specs.Probe.{point_on_side, probe_ray};
 
 use consts::Settings;
+use grid::LabelEdge;
 use homography::PerspectiveTransform;
 use pixel::{Direction, SourcePixel};
 use probes::Probe;
@@ -35,16 +36,16 @@ pub struct ProbeRay {
     pub ray: Ray,
 }
 
-// A point of the unit square, t along an edge, 0 top, 1 right, 2 bottom, else left: at the top and the
-// left `near` from the side, at the other two `far` from the opposite one.
-fn point_on_side(edge: u32, near: f64, far: f64, t: f64) -> SourcePixel
+// A point of the unit square, t along an edge: at the top and the left `near` from the side, at the other two `far`
+// from the opposite one.
+fn point_on_side(edge: LabelEdge, near: f64, far: f64, t: f64) -> SourcePixel
     ensures { result ≡ point_on_side edge near far t }
 {
     match edge {
-        0 => SourcePixel(t, near),
-        1 => SourcePixel(far, t),
-        2 => SourcePixel(t, far),
-        _ => SourcePixel(near, t),
+        LabelEdge::Top => SourcePixel(t, near),
+        LabelEdge::Right => SourcePixel(far, t),
+        LabelEdge::Bottom => SourcePixel(t, far),
+        LabelEdge::Left => SourcePixel(near, t),
     }
 }
 
@@ -54,9 +55,10 @@ pub fn probe_ray(plan: Plan, side: Side, probe: Probe) -> ProbeRay
     ensures { result ≡ probe_ray plan side probe }
 {
     let map = side.map;
+    let edge = LabelEdge::from(side.edge);
     let inv_dim = 1.0 / plan.dim as f64;
-    let b = point_on_side(side.edge, 0.0, 1.0, probe.t);
-    let i = point_on_side(side.edge, inv_dim, 1.0 - inv_dim, probe.t);
+    let b = point_on_side(edge, 0.0, 1.0, probe.t);
+    let i = point_on_side(edge, inv_dim, 1.0 - inv_dim, probe.t);
     let coarse = map.map(b.0, b.1);
     let inner = map.map(i.0, i.1);
     let ox = coarse.0 - inner.0;

@@ -12,6 +12,7 @@ use lib.ListN.{length, length-append, drop}
 use lib.Seq.{drop-append-add, drop-nil}
 use Rattle.prelude.specs.Prelude.{when◌then◌else◌}
 use Rattle.consts.specs.declared.Settings.{Settings}
+use Rattle.grid.specs.declared.LabelEdge.{LabelEdge}
 use Rattle.grid.specs.Grids.{Grid, border_dark}
 use Rattle.probes.specs.Probes.{near_end, module_candidates, candidates_from, candidates}
 use Rattle.probes.specs.Places.{place_at, probe_at, is_candidate, candidate, candidates_of, onward, Sought}
@@ -21,7 +22,7 @@ pair : (dark : Bool) (x y : List Probe) → (when dark then x else []) ++ (when 
 pair true x y = refl
 pair false x y = refl
 
-module _ (s : Settings) (g : Grid) (e : ℕ) where
+module _ (s : Settings) (g : Grid) (e : LabelEdge) where
   -- ---- modules
 
   two_places : (m : ℕ) → candidate s g e (2 * m) ++ candidate s g e (suc (2 * m)) ≡ module_candidates s g e m
@@ -128,21 +129,15 @@ module _ (s : Settings) (g : Grid) (e : ℕ) where
         → drop left (onward s g e j) ≡ drop skip (onward s g e from) → drop (left - 1) (onward s g e (j + 1)) ≡ drop skip (onward s g e from)
     sought_over j l h is some had = sought_on j l (candidate-counted j (sym is ∙ h)) (omega arith) had
 
-    sought_at : (j : ℕ) {left here : ℕ} → here ≡ length (candidate s g e j) → left < here
+    pub sought_here : (j : ℕ) {left : ℕ} {b : Bool} → j < 2 * g.dim → b ≡ is_candidate s g e j → b ≡ true → left ≡ 0
         → drop left (onward s g e j) ≡ drop skip (onward s g e from) → Sought s g e from skip j
-    sought_at j {left} is more had =
-        let none : left ≡ 0 = omega (arith, at_most_one j) in
+    sought_here j {left} {b} l h is none had =
+        let some : 1 ≡ length (candidate s g e j) = candidate-counted j (sym is ∙ h) in
+        let here : candidate s g e j ≡ probe_at s g e j ∷ [] = ⊎_elim (λ one. one) (λ nothing. absurd (omega (arith, some, ap length nothing))) (one_or_none j) in
         record {
-          left = sym (ap (λ (n : ℕ). drop n (onward s g e j)) none) ∙ had;
-          here = λ inside. ⊎_elim (λ one. one) (λ none. absurd (omega (arith, ap length none))) (one_or_none j);
+          inside = l;
+          left = sym had ∙ ap (λ (n : ℕ). drop n (onward s g e j)) none ∙ onward_more j l ∙ ap (λ (ps : List Probe). ps ++ onward s g e (j + 1)) here;
         }
 
-    pub sought_here : (j : ℕ) {left : ℕ} {b : Bool} → b ≡ is_candidate s g e j → b ≡ true → left ≡ 0
-        → drop left (onward s g e j) ≡ drop skip (onward s g e from) → Sought s g e from skip j
-    sought_here j h is none had = sought_at j (candidate-counted j (sym is ∙ h)) (omega arith) had
-
-    pub sought_none : (j left : ℕ) → 2 * g.dim ≤ j → drop left (onward s g e j) ≡ drop skip (onward s g e from) → Sought s g e from skip (2 * g.dim)
-    sought_none j left l had = record {
-      left = onward-end (2 * g.dim) (omega arith) ∙ sym (drop-nil left) ∙ ap (drop left) (sym (onward-end j l)) ∙ had;
-      here = λ inside. absurd (omega arith);
-    }
+    pub sought_none : (j left : ℕ) → 2 * g.dim ≤ j → drop left (onward s g e j) ≡ drop skip (onward s g e from) → drop skip (onward s g e from) ≡ []
+    sought_none j left l had = sym had ∙ ap (drop left) (onward-end j l) ∙ drop-nil left

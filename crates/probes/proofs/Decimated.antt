@@ -10,11 +10,12 @@ use lib.Seq.{take_all, take-nil}
 use borrow.Author.Tests.{lt-ltb, le-ltb, ne_eqb}
 use Rattle.consts.specs.Consts.{max_edge_points}
 use Rattle.consts.specs.declared.Settings.{Settings}
+use Rattle.grid.specs.declared.LabelEdge.{LabelEdge}
 use Rattle.grid.specs.Grids.{Grid}
-use Rattle.probes.specs.Probes.{every_from, decimated, candidates, probes_of}
+use Rattle.probes.specs.Probes.{every_from, decimated, candidates}
 use Rattle.probes.specs.Places.{probe_at, onward, Counted, Thins, Sought, Picked}
 use Rattle.probes.specs.declared.Probe.{Probe}
-use Rattle.probes.proofs.Candidates.{onward-all, onward_more, onward-end}
+use Rattle.probes.proofs.Candidates.{onward-all}
 
 -- ---- every k-th
 
@@ -71,51 +72,41 @@ thins_many n most l p = record { some = (le-div_iff_mul-le p).1 (omega arith); r
 
 -- ---- the store
 
-module _ (s : Settings) (g : Grid) (e k most : ℕ) where
-  -- these are taken, and what is due of the candidates from place j on, behind so many, fills the rest
-  pub record Filled (j skip : ℕ) (ps : List Probe) : Type 0 where
-    pub fits : length ps ≤ most
-    pub taken : ps ++ take (most - length ps) (every_from k 0 (drop skip (onward s g e j))) ≡ take most (every_from k 0 (candidates s g e))
+module _ (s : Settings) (g : Grid) (e : LabelEdge) (k most : ℕ) where
+  -- so many are taken, and what is due of the candidates from place j on, behind `skip`, fills the rest
+  pub record Filled (n j skip : ℕ) (ps : List Probe) : Type 0 where
+    pub count : length ps ≡ n
+    pub within : j ≤ 2 * g.dim
+    pub taken : ps ++ take (most - n) (every_from k 0 (drop skip (onward s g e j))) ≡ take most (every_from k 0 (candidates s g e))
 
-  pub filled_none : Filled 0 0 []
-  filled_none = record { fits = omega arith; taken = rw sub-zero (ap (λ (l : List Probe). take most (every_from k 0 l)) (onward-all s g e)) }
+  pub filled_none : Filled 0 0 0 []
+  filled_none = record { count = refl; within = omega arith; taken = rw sub-zero (ap (λ (l : List Probe). take most (every_from k 0 l)) (onward-all s g e)) }
 
   -- the next candidate is taken
-  pub filled_more : {j skip r : ℕ} {ps : List Probe} {p : Probe} → Filled j skip ps → length ps < most → 0 < k → Sought s g e j skip r → r < 2 * g.dim → p ≡ probe_at s g e r
-      → Filled (r + 1) (k - 1) (ps ++ p ∷ [])
-  filled_more {j} {skip} {r} {ps} {p} had l some at inside is =
-      let long : length (ps ++ p ∷ []) ≡ length ps + 1 = length-append ps (p ∷ []) in
-      let one : most - length ps ≡ suc (most - length (ps ++ p ∷ [])) = omega (arith, long) in
-      let due = every_from k 0 (drop (k - 1) (onward s g e (r + 1))) in
-      let found : drop skip (onward s g e j) ≡ p ∷ onward s g e (r + 1) = sym at.left ∙ onward_more s g e r inside ∙ rw (at.here inside, is) in
+  pub filled_more : {n j skip at : ℕ} {ps : List Probe} {p : Probe} → Filled n j skip ps → n < most → 0 < k → Sought s g e j skip at → p ≡ probe_at s g e at
+      → Filled (n + 1) (at + 1) (k - 1) (ps ++ p ∷ [])
+  filled_more {n} {j} {skip} {at} {ps} {p} had l some here is =
+      let found : drop skip (onward s g e j) ≡ p ∷ onward s g e (at + 1) = rw is here.left in
+      let one : most - n ≡ suc (most - (n + 1)) = omega arith in
+      let due = every_from k 0 (drop (k - 1) (onward s g e (at + 1))) in
       record {
-        fits = omega (arith, long);
-        taken = append_assoc ps (p ∷ []) (take (most - length (ps ++ p ∷ [])) due)
+        count = omega (arith, length-append ps (p ∷ []), had.count);
+        within = omega (arith, here.inside);
+        taken = append_assoc ps (p ∷ []) (take (most - (n + 1)) due)
             ∙ ap (λ (m : ℕ). ps ++ take m (p ∷ due)) (sym one)
-            ∙ ap (λ (l : List Probe). ps ++ take (most - length ps) l) (sym (ap (every_from k 0) found ∙ every_next k p (onward s g e (r + 1)) some))
+            ∙ ap (λ (l : List Probe). ps ++ take (most - n) l) (sym (ap (every_from k 0) found ∙ every_next k p (onward s g e (at + 1)) some))
             ∙ had.taken;
       }
 
-  -- nothing is due any more
-  picked : (j skip : ℕ) (ps : List Probe) → Filled j skip ps → take (most - length ps) (every_from k 0 (drop skip (onward s g e j))) ≡ []
-      → Picked s g e k most ps
-  picked j skip ps had due = sym (append-nil ps) ∙ ap (λ (l : List Probe). ps ++ l) (sym due) ∙ had.taken
-
   -- no candidate is left
-  pub picked_all : {j skip r : ℕ} {ps : List Probe} → Filled j skip ps → Sought s g e j skip r → 2 * g.dim ≤ r → Picked s g e k most ps
+  pub picked_all : {n j skip : ℕ} {ps : List Probe} → Filled n j skip ps → drop skip (onward s g e j) ≡ [] → Picked s g e k most ps
   unfolding every_from
-  picked_all {j} {skip} {r} {ps} had at l =
-      let none : drop skip (onward s g e j) ≡ [] = sym at.left ∙ onward-end s g e r l in
-      picked j skip ps had (rw none (take-nil (most - length ps)))
-
-  -- there is no room left
-  pub picked_full : {j skip : ℕ} {ps : List Probe} → Filled j skip ps → most ≤ length ps → Picked s g e k most ps
-  picked_full {j} {skip} {ps} had full = let none : most - length ps ≡ 0 = omega arith in picked j skip ps had (rw none)
+  picked_all {n} {j} {skip} {ps} had none = sym (append-nil ps) ∙ ap (λ (l : List Probe). ps ++ l) (sym (rw none (take-nil (most - n)))) ∙ had.taken
 
 -- ---- the selection
 
 -- the candidates are counted, the decimation is theirs, and every k-th is picked
-pub selected : (s : Settings) (g : Grid) (e n most k : ℕ) {r : List Probe} → most ≡ min s.max_points_per_edge max_edge_points → Counted s g e n → Thins n most k → Picked s g e k most r
-    → r ≡ probes_of s g e
+pub selected : (s : Settings) (g : Grid) (e : LabelEdge) (n most k : ℕ) {r : List Probe} → most ≡ min s.max_points_per_edge max_edge_points → Counted s g e n → Thins n most k → Picked s g e k most r
+    → r ≡ decimated (min s.max_points_per_edge max_edge_points) (candidates s g e)
 selected s g e n most k h counted thins picked =
     picked ∙ thins.right (candidates s g e) (sym counted.all) ∙ ap (λ (l : ℕ). decimated l (candidates s g e)) h

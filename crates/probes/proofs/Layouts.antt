@@ -3,25 +3,15 @@ use mathlib.Core.Path.{◌≡◌, refl}
 use Prim.Native.Nat.{ℕ, ◌+◌, ◌-◌, ◌*◌, ◌≤◌, ◌<◌}
 use native.Mathlib.Nat.{add_comm, mul-one}
 use native.Mathlib.Omega.{arith}
-use mathlib.Core.Bool.{Bool, true, false}
+use mathlib.Core.Bool.{Bool}
 use mathlib.Core.List.{List}
 use lib.Dec.{eqb}
 use lib.ListN.{get_or}
-use Rattle.prelude.specs.Prelude.{when◌then◌else◌}
 use Rattle.pixel.proofs.Places.{row-most}
-use Rattle.grid.specs.Grids.{grid_of, by_side, dark, edge_dark, border_dark, inward_dark}
+use Rattle.grid.specs.declared.LabelEdge.{LabelEdge}
+use Rattle.grid.specs.declared.LabelEdge.TheVariants.{Top, Right, Bottom, Left}
+use Rattle.grid.specs.Grids.{grid_of, dark, edge_dark, border_dark, inward_dark}
 use Rattle.probes.specs.Layouts.{start_of, stride_of, dark_at}
-
--- what holds of each edge holds of the edge at hand
-each_side : {A : Type 0} (e : ℕ) (P : A → ℕ → ℕ → Type 0) {a b c d : A} {i j k l m n o p : ℕ} → P a i m → P b j n → P c k o → P d l p
-    → P (by_side e a b c d) (by_side e i j k l) (by_side e m n o p)
-each_side e P {a} {b} {c} {d} {i} {j} {k} {l} {m} {n} {o} {p} top right bottom left = go (eqb e 0) (eqb e 1) (eqb e 2)
-  where
-    go : (t r u : Bool) → P (when t then a else when r then b else when u then c else d) (when t then i else when r then j else when u then k else l) (when t then m else when r then n else when u then o else p)
-    go true r u = top
-    go false true u = right
-    go false false true = bottom
-    go false false false = left
 
 -- a row and a column of 32 bits
 place-fits : (row dim column : ℕ) → row ≤ 4294967295 → dim ≤ 4294967295 → column ≤ 4294967295 → row * dim + column < 18446744073709551616
@@ -38,18 +28,15 @@ along-row ms m first l = record { dark = rw mul-one; fits = rw mul-one l }
 along-column : (ms : List ℕ) (m first dim : ℕ) → m * dim + first < 18446744073709551616 → Lies ms m (eqb (get_or ms (m * dim + first) 0) 1) first dim
 along-column ms m first dim l = rw (add_comm (m * dim) first) (record { dark = refl; fits = rw (add_comm first) l })
 
-edge_lies : (dim e m depth : ℕ) (ms : List ℕ) → dim ≤ 4294967295 → m ≤ 4294967295 → depth ≤ 4294967295
+edge_lies : (dim : ℕ) (e : LabelEdge) (m depth : ℕ) (ms : List ℕ) → dim ≤ 4294967295 → m ≤ 4294967295 → depth ≤ 4294967295
     → Lies ms m (edge_dark (grid_of dim ms) e m depth) (start_of dim e depth) (stride_of dim e)
 unfolding edge_dark dark
-edge_lies dim e m depth ms p q l =
-    let far : dim - 1 - depth ≤ 4294967295 = omega arith in
-    each_side e (Lies ms m)
-    (along-row ms m (depth * dim) (place-fits depth dim m l p q))
-    (along-column ms m (dim - 1 - depth) dim (place-fits m dim (dim - 1 - depth) q p far))
-    (along-row ms m ((dim - 1 - depth) * dim) (place-fits (dim - 1 - depth) dim m far p q))
-    (along-column ms m depth dim (place-fits m dim depth q p l))
+edge_lies dim Top m depth ms p q l = along-row ms m (depth * dim) (place-fits depth dim m l p q)
+edge_lies dim Right m depth ms p q l = along-column ms m (dim - 1 - depth) dim (place-fits m dim (dim - 1 - depth) q p (omega arith))
+edge_lies dim Bottom m depth ms p q l = along-row ms m ((dim - 1 - depth) * dim) (place-fits (dim - 1 - depth) dim m (omega arith) p q)
+edge_lies dim Left m depth ms p q l = along-column ms m depth dim (place-fits m dim depth q p l)
 
-module _ (dim e m : ℕ) (ms : List ℕ) {first step : ℕ} (step_lies : step ≡ stride_of dim e) (p : dim ≤ 4294967295) (q : m ≤ 4294967295) where
+module _ (dim : ℕ) (e : LabelEdge) (m : ℕ) (ms : List ℕ) {first step : ℕ} (step_lies : step ≡ stride_of dim e) (p : dim ≤ 4294967295) (q : m ≤ 4294967295) where
   lies : (depth : ℕ) → depth ≤ 4294967295 → first ≡ start_of dim e depth → Lies ms m (edge_dark (grid_of dim ms) e m depth) first step
   lies depth l h = rw (h, step_lies) (edge_lies dim e m depth ms p q l)
 

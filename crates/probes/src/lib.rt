@@ -1,15 +1,16 @@
 // refine.rs, the selection of probes: which places of an edge are probed.
 #![tactic(auto)]
 
-ghost use Rattle.std.specs.Prelude.{◌≡◌, ◌+◌, ◌-◌, ◌*◌, ◌≤◌, ◌<◌};
+ghost use Rattle.std.specs.Prelude.{◌≡◌, ◌+◌, ◌-◌, ◌*◌, ◌≤◌, ◌<◌, [], drop, IfSome, IfNone};
 ghost use Rattle.consts.specs.Consts.{max_edge_points};
 ghost use Rattle.grid.specs.Grids.{grid_of};
 ghost use Rattle.probes.specs.Layouts.{dark_at, start_of, stride_of};
 ghost use Rattle.probes.specs.Probes.{near_end, probes_of};
-ghost use Rattle.probes.specs.Places.{fraction_at, probe_at, is_candidate, Counted, Thins, Sought, Picked};
+ghost use Rattle.probes.specs.Places.{fraction_at, probe_at, is_candidate, onward, Counted, Thins, Sought, Picked};
 
 use arrayvec::ArrayVec;
 use consts::{MAX_EDGE_POINTS, Settings};
+use grid::LabelEdge;
 
 // A probe of an edge: how far along it, from 0 to 1, and whether the module behind it is light.
 #[derive(Clone, Copy, Default)]
@@ -18,14 +19,14 @@ pub struct Probe {
     pub inward_differs: bool,
 }
 
-// An edge of a label, 0 the top, 1 right, 2 bottom, else left: its modules, and the settings that its probes go by.
+// An edge of a label: its modules, and the settings that its probes go by.
 // Found once for all its modules: where the first one and the one behind that lie, and how far apart the next ones.
 #[derive(Clone, Copy)]
 struct Edge<'a> {
     settings: Settings,
     modules: &'a [u8],
     dim: u32,
-    edge: u32,
+    edge: LabelEdge,
     border: usize,
     inward: usize,
     step: usize,
@@ -45,29 +46,29 @@ fn dark(modules: &[u8], first: usize, step: usize, m: usize) -> bool
 }
 
 // Where the first module lies, so many modules behind an edge.
-fn start(dim: u32, edge: u32, depth: u32) -> usize
+fn start(dim: u32, edge: LabelEdge, depth: u32) -> usize
     ensures { result ≡ start_of dim edge depth }
 {
     let far = dim.saturating_sub(1).saturating_sub(depth) as usize;
     match edge {
-        0 => depth as usize * dim as usize,
-        1 => far,
-        2 => far * dim as usize,
-        _ => depth as usize,
+        LabelEdge::Top => depth as usize * dim as usize,
+        LabelEdge::Right => far,
+        LabelEdge::Bottom => far * dim as usize,
+        LabelEdge::Left => depth as usize,
     }
 }
 
 // How far apart the next ones lie.
-fn stride(dim: u32, edge: u32) -> usize
+fn stride(dim: u32, edge: LabelEdge) -> usize
     ensures { result ≡ stride_of dim edge }
 {
     match edge {
-        0 | 2 => 1,
-        _ => dim as usize,
+        LabelEdge::Top | LabelEdge::Bottom => 1,
+        LabelEdge::Right | LabelEdge::Left => dim as usize,
     }
 }
 
-// ---- places: two in each module of an edge
+// ---- places: two in each module of an edge, and so fewer than 2^33, for any side
 
 // The fraction of its module at which place j lies.
 fn fraction(settings: Settings, j: usize) -> f64
@@ -89,7 +90,7 @@ fn near_end(settings: Settings, dim: u32, at: f64) -> bool
 
 impl<'a> Edge<'a> {
     // An edge of a grid of this side.
-    fn new(settings: Settings, modules: &'a [u8], dim: u32, edge: u32) -> Edge<'a>
+    fn new(settings: Settings, modules: &'a [u8], dim: u32, edge: LabelEdge) -> Edge<'a>
         ensures settings { result.settings ≡ settings }
         ensures modules { result.modules.now ≡ modules.now }
         ensures dim { result.dim ≡ dim }
@@ -148,23 +149,24 @@ impl<'a> Edge<'a> {
         n
     }
 
-    // From a place on, the place of the candidate behind so many others, or the edge's end where there is none.
-    fn next_candidate(&self, from: usize, skip: usize) -> usize
+    // From a place on, the place of the candidate behind so many others, if there is one.
+    fn next_candidate(&self, from: usize, skip: usize) -> Option<usize>
         requires { from ≤ 2 * self.now.dim }
-        ensures { Sought self.now.settings (grid_of self.now.dim self.now.modules.now) self.now.edge
-            from skip result }
+        ensures found { IfSome result (Sought self.now.settings
+            (grid_of self.now.dim self.now.modules.now) self.now.edge from skip) }
+        ensures none { IfNone result (drop skip (onward self.now.settings
+            (grid_of self.now.dim self.now.modules.now) self.now.edge from) ≡ []) }
     {
-        let places = 2 * self.dim as usize;
         let mut left = skip;
-        for j in from..places {
+        for j in from..2 * self.dim as usize {
             if self.is_candidate(j) {
                 if left == 0 {
-                    return j;
+                    return Some(j);
                 }
                 left -= 1;
             }
         }
-        places
+        None
     }
 
     // Every k-th candidate, while there is room.
@@ -174,16 +176,13 @@ impl<'a> Edge<'a> {
             most result.items }
     {
         let mut probes = ArrayVec::new();
-        let places = 2 * self.dim as usize;
         let mut j: usize = 0;
         let mut skip: usize = 0;
-        while probes.len() < most {
-            let at = self.next_candidate(j, skip);
-            if at >= places {
-                return probes;
-            }
-            let probe = self.probe_at(at);
-            probes.push(probe);
+        for _ in 0..most {
+            let Some(at) = self.next_candidate(j, skip) else {
+                break;
+            };
+            probes.push(self.probe_at(at));
             j = at + 1;
             skip = k - 1;
         }
@@ -203,8 +202,8 @@ fn decimation(n: usize, most: usize) -> usize
     }
 }
 
-// The probes of an edge: its candidates, decimated evenly to the limit. The edge is a number, as callers may pass any:
-// past 2 it is the left one. A call of its own, since what it moves would lie on the caller's stack.
+// The probes of the edge of a number: its candidates, decimated evenly to the limit. A number, since callers may pass
+// any: past 2 it is the left one. A call of its own, since what it moves would lie on the caller's stack.
 #[inline(never)]
 pub fn probes_of(
     settings: Settings,
@@ -215,7 +214,7 @@ pub fn probes_of(
     ensures { result.items ≡ probes_of settings (grid_of dim modules.now) edge }
 {
     let most = (settings.max_points_per_edge as usize).min(MAX_EDGE_POINTS);
-    let side = Edge::new(settings, modules, dim, edge);
+    let side = Edge::new(settings, modules, dim, LabelEdge::from(edge));
     let n = side.count_candidates();
     side.select(decimation(n, most), most)
 }

@@ -42,7 +42,8 @@ fn offset_along(normal: Direction, step: f64, c: SourcePixel, offset: f64) -> So
 // ---- three passes
 
 // An edge point by three passes of seven samples, each around the point that the one before found.
-// The first rejected sample, and a profile without a peak, ends the point.
+// The first rejected sample, and a profile without a peak, ends the point: by a label and not by `?`, a form that
+// document 01 asks for.
 #[inline(always)]
 fn localize_by(sampler: &mut Sampler, settings: Settings, ray: Ray) -> Option<EdgePoint>
     ensures { Samples sampler.old sampler.new (localized settings ray) result }

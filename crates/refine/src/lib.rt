@@ -3,7 +3,7 @@
 
 ghost use Rattle.std.specs.Prelude.{◌≡◌, ◌*◌, min};
 ghost use Rattle.sample_tree.specs.Samplers.{Samples};
-ghost use Rattle.request.specs.Requests.{photograph as lent, plain};
+ghost use Rattle.request.specs.Requests.{lent, plain};
 ghost use Rattle.refine.specs.Refine.{plan_of, refine, refinement};
 
 use corners::Answer;
@@ -12,11 +12,11 @@ use probe::Plan;
 use request::Request;
 use sample_tree::{Meter, Sampler};
 
-// A label's corners, refined on the photograph as it is, whatever camera is asked for. Refused by 1 to 6, then by
-// 8, by 9, or by the refusal of an edge. The Rust has both calls, so they stay two.
+// A label's corners, refined on the photograph as it is, whatever camera is asked for. Refused by an entry
+// check, then by `Quad`, by `Thin`, or by the refusal of an edge. The Rust has both calls, so they stay two.
 pub fn refine_corners(photograph: Photograph, modules: &[u8], request: Request) -> Answer
     ensures { result ≡ refine (plain request) modules.now
-        (lent photograph.entry.bytes.now photograph.entry.stride) }
+        (lent photograph.entry) }
 {
     refine_corners_mapped(photograph, modules, request.plain())
 }
@@ -25,7 +25,7 @@ pub fn refine_corners(photograph: Photograph, modules: &[u8], request: Request) 
 // are lent.
 pub fn refine_corners_mapped(photograph: Photograph, modules: &[u8], request: Request) -> Answer
     ensures { result ≡ refine request modules.now
-        (lent photograph.entry.bytes.now photograph.entry.stride) }
+        (lent photograph.entry) }
 {
     request::entry(photograph, modules, request)?;
     let mut sampler = Sampler {
@@ -33,12 +33,12 @@ pub fn refine_corners_mapped(photograph: Photograph, modules: &[u8], request: Re
         scene: request.scene(),
         sheet: &mut [],
         copy: &mut [],
-        meter: Meter { tried: 0 },
+        meter: Meter::default(),
     };
     refine_entered(&mut sampler, modules, request)
 }
 
-// How many of so many bytes are the label's own modules. Behind check 3 they are all there.
+// How many of so many bytes are the label's own modules. Behind the check by `Grid` they are all there.
 fn own_modules(dim: u32, bytes: usize) -> usize
     ensures { result ≡ min (dim * dim) bytes }
 {

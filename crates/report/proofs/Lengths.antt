@@ -3,11 +3,9 @@ use Prim.Native.Nat.{ℕ, ◌*◌, ◌≤◌}
 use mathlib.Core.Bool.{Bool, false}
 use mathlib.Core.List.{List, ◌++◌}
 use native.Mathlib.Omega.{arith}
-use lib.Dec.{eqb}
 use lib.Ieee.{binary64, to_bits}
 use lib.ListN.{length, length-append, get_or}
 use Rattle.prelude.specs.Prelude.{bit}
-use Rattle.prelude.proofs.Branches.{either}
 use Rattle.number.specs.Numbers as number
 use Rattle.pixel.specs.Pixels.{corner}
 use Rattle.pixel.specs.declared.SourcePixel.{SourcePixel}

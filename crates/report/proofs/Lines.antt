@@ -1,7 +1,7 @@
 -- The lines of an answer stand whole in a buffer of 1024 bytes, and are all that `io` counts there. Assumes nothing.
 use Prim.Native.Nat.{ℕ, ◌≤◌, min}
 use mathlib.Core.Path.{◌≡◌, sym}
-use mathlib.Core.List.{List, ◌++◌}
+use mathlib.Core.List.{List}
 use native.Mathlib.Omega.{arith}
 use lib.ListN.{length}
 use lib.Seq.{length-take-le, length-sets, sets}

@@ -13,7 +13,7 @@ use Rattle.request.specs.declared.Request.{Request}
 use Rattle.request.specs.Requests.{Photograph, entry_checks, entry}
 
 module _ (r : Request) (ms : List ℕ) (p : Photograph) (enters : entry r ms p ≡ Ok tt) where
-  -- checks 1 and 2 pass, and so do those behind them
+  -- the photograph's checks pass, and so do those behind them
   pub photograph-passes : (good_size r.width r.height ≡ true) × (good_photograph r.width r.height p.stride (length p.bytes) ≡ true)
       × (first (drop 2 (entry_checks r ms p)) ≡ Ok tt)
   photograph-passes =
@@ -21,6 +21,6 @@ module _ (r : Request) (ms : List ℕ) (p : Photograph) (enters : entry r ms p �
       let good = both (good_size r.width r.height) (good_photograph r.width r.height p.stride (length p.bytes) && true) ((ok_exactly (photograph_checks r.width r.height p.stride (length p.bytes))).0 all.0) in
       (good.0, (both (good_photograph r.width r.height p.stride (length p.bytes)) true good.1).0, all.1)
 
-  -- another photograph passes them all where it passes check 2
+  -- another photograph passes them all where its bytes suffice
   pub other_photograph : (q : Photograph) → good_photograph r.width r.height q.stride (length q.bytes) ≡ true → entry r ms q ≡ Ok tt
   other_photograph q good = rw (photograph-passes.0, good) photograph-passes.2

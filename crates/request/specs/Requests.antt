@@ -10,6 +10,7 @@ use Rattle.ieee.specs.Floats.{◌≺◌, f0, f2^20}
 use Rattle.pixel.specs.Pixels.{to_source}
 use Rattle.pixel.specs.declared.SourcePixel.{SourcePixel}
 use Rattle.photograph.specs.Photographs.{Photo, photo, photograph_checks}
+use Rattle.photograph.specs.declared.Photograph as code
 use Rattle.footprint.specs.declared.Scene.{Scene}
 use Rattle.footprint.specs.Footprints.{good_view}
 use Rattle.grid.specs.Grids.{grid_of, good_grid}
@@ -42,11 +43,15 @@ pub record Photograph : Type 0 where
 abbrev pub photograph : List ℕ → ℕ → Photograph
 photograph bytes stride = record { bytes = bytes; stride = stride }
 
+-- the code's
+abbrev pub lent : code.Photograph → Photograph
+lent p = photograph p.bytes.now p.stride
+
 -- the corners after the division
 abbrev pub source_corners : Request → List SourcePixel
 source_corners r = map (to_source r.sx r.sy) r.corners
 
--- ---- the entry checks, 1 to 6
+-- ---- the entry checks, in the order in which they refuse
 
 abbrev pub good_scale : Float → Bool
 good_scale s = is_finite s && (f0 ≺ s)

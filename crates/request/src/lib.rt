@@ -1,5 +1,5 @@
 // refine.rs, what `refine_corners` and `refine_corners_mapped` are asked: the request, the division of its corners, and
-// the entry checks, 1 to 6.
+// the entry checks, by `Size` to `Lens`.
 #![tactic(auto)]
 
 ghost use Rattle.std.specs.Prelude.{◌≡◌, ◌*◌, ◌&&◌};
@@ -7,7 +7,7 @@ ghost use Rattle.request.specs.Requests.{
   all_within_bounds,
   entry,
   good_scale,
-  photograph as lent,
+  lent,
   plain,
   scene_of,
   source_corners,
@@ -91,7 +91,7 @@ fn all_within_bounds(corners: [SourcePixel; 4]) -> bool
 
 // The entry checks: the first that fails refuses.
 pub fn entry(photograph: Photograph, modules: &[u8], request: Request) -> Result<(), Refusal>
-    ensures { result ≡ entry request modules.now (lent photograph.entry.bytes.now photograph.entry.stride) }
+    ensures { result ≡ entry request modules.now (lent photograph.entry) }
 {
     photograph.check(request.width, request.height)?;
     if !grid::good_grid(modules, request.dim) {
@@ -109,7 +109,7 @@ pub fn entry(photograph: Photograph, modules: &[u8], request: Request) -> Result
     Ok(())
 }
 
-// How many bytes or modules lie in so many rows.
+// How many bytes or modules lie in so many rows. Width and height go side by side, as `photograph` says.
 pub fn area(width: u32, height: u32) -> usize
     ensures { result ≡ width * height }
 {

@@ -2,11 +2,10 @@
 -- nothing.
 use Prim.Native.Nat.{ℕ, ◌*◌, ◌≤◌}
 use mathlib.Core.Path.{◌≡◌, refl, ap, ◌∙◌}
-use mathlib.Core.List.{List, [], ◌∷◌, ◌++◌, append_assoc}
+use mathlib.Core.List.{List, ◌∷◌, ◌++◌, append_assoc}
 use borrow.Author.Tests.{le-leb}
 use lib.ListN.{length, length-append}
 use lib.Seq.{sets, sets-eq}
-use Rattle.fit.specs.declared.EdgeStat.{EdgeStat}
 use Rattle.corners.specs.declared.RefinedCorners.{RefinedCorners}
 use Rattle.fields.specs.Fields.{bytes_of}
 use Rattle.fields.proofs.Writes.{Row, length_float, length-row}

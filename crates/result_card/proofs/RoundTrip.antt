@@ -17,9 +17,9 @@ use Rattle.fit.specs.declared.EdgeStat.{EdgeStat}
 use Rattle.fit.specs.Fit.{stat}
 use Rattle.fit.proofs.Counts.{Counted}
 use Rattle.corners.specs.declared.RefinedCorners.{RefinedCorners}
-use Rattle.fields.specs.Fields.{number_at, float_at, bytes_of, float_bytes, field}
+use Rattle.fields.specs.Fields.{number_at, bytes_of, float_bytes}
 use Rattle.fields.proofs.RoundTrip.{float_back}
-use Rattle.result_card.specs.ResultCard.{corner_bytes, stat_bytes, flag_bytes, result_card, read_corner, read_stat, read_flag, read_result}
+use Rattle.result_card.specs.ResultCard.{result_card, read_result}
 
 -- ---- what an answer is made of, as it is read: x, y, counts, flags
 

@@ -1,6 +1,6 @@
 -- A run against document 01's reading, in which a sample reads all four pixels, also where a fraction is 0: over a photograph of bytes it ends in the same, and it reads, marks and
 -- copies no pixel that the other does not. Why: each sample shows the same, so the run goes the same way, and the column or the row that it leaves out is the only one that it
--- reads less. `keeps-no_more` below proves it of every step, in any scene whose size passes check 1. Assumes nothing.
+-- reads less. `keeps-no_more` below proves it of every step, in any scene whose size passes its check. Assumes nothing.
 use mathlib.Core.Path.{◌≡◌, refl, sym, ap, ◌∙◌, subst}
 use mathlib.Core.Logic.{◌⊎◌, inl, inr}
 use Prim.Native.Nat.{ℕ, ◌+◌, ◌*◌, ◌<◌}

@@ -1,6 +1,6 @@
 -- Demand 3, for every step that looks at a photograph: what the mark sheet and the blanked copy of a run tell.
 -- Why: the sheet and the copy hold nothing but the pixels read and their bytes, and by the agreement theorem a step that reads those bytes again runs as it did.
--- `demand_3` below proves it of any scene whose size passes check 1. Assumes nothing.
+-- `demand_3` below proves it of any scene whose size passes its check. Assumes nothing.
 use mathlib.Core.Path.{◌≡◌, refl, sym, ap, ◌∙◌, subst}
 use mathlib.Core.Logic.{◌↔◌}
 use Prim.Native.Nat.{ℕ, ◌+◌, ◌*◌, ◌<◌}

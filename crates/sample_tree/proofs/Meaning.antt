@@ -1,4 +1,4 @@
--- What a run by the refinement's sampler comes to, for every step: its answer is the step's value, its meter counts the samples taken, and from a cleared sheet and a cleared
+-- What a run by the refinement's handler comes to, for every step: its answer is the step's value, its meter counts the samples taken, and from a cleared sheet and a cleared
 -- copy it leaves the sheet and the copy of what the step reads. By induction on the tree. Assumes nothing.
 use mathlib.Core.Path.{◌≡◌, refl, sym, ap, ◌∙◌, subst}
 use Prim.Native.Nat.{ℕ, ◌+◌, ◌*◌, ◌≤◌, ◌<◌}

@@ -7,8 +7,7 @@ use Rattle.photograph.specs.Photographs.{photo}
 use Rattle.sample_tree.specs.SampleTree.{SampleTree, done, value, ◌>>=◌}
 use Rattle.sample_tree.specs.Options.{on_some}
 use Rattle.sample_tree.specs.Results.{on_ok}
-use Rattle.sample_tree.specs.Run as run
-use Rattle.sample_tree.specs.Run.{State, Runs}
+use Rattle.sample_tree.specs.Run.{Handler, State, Runs}
 use Rattle.sample_tree.specs.declared.Sampler.{Sampler}
 use Rattle.sample_tree.specs.Samplers.{sampler_of, state_of, Samples}
 use Rattle.sample_tree.proofs.Meaning.{ran-value}
@@ -45,7 +44,7 @@ module _ {A : Type 0} {first now : Sampler} {t : SampleTree A} where
       sheet = ran.sheet ∙ left.sheet;
       copy = ran.copy ∙ left.copy;
       runs = steps.ended _ left.leads
-          (subst (λ (ask : run.Sampler State). Runs ask u a (state_of now) (state_of after)) (same_sampler first now left.photograph left.scene) ran.runs);
+          (subst (λ (ask : Handler State). Runs ask u a (state_of now) (state_of after)) (same_sampler first now left.photograph left.scene) ran.runs);
     }
 
     -- a call ran a first step
@@ -57,7 +56,7 @@ module _ {A : Type 0} {first now : Sampler} {t : SampleTree A} where
       copy = ran.copy ∙ left.copy;
       leads = steps.then _ left.leads
           (steps.called _ u f
-          (subst (λ (ask : run.Sampler State). Runs ask u r (state_of now) (state_of after)) (same_sampler first now left.photograph left.scene) ran.runs));
+          (subst (λ (ask : Handler State). Runs ask u r (state_of now) (state_of after)) (same_sampler first now left.photograph left.scene) ran.runs));
     }
 
 -- a first step that found something, and one that found nothing

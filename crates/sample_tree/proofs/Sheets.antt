@@ -12,7 +12,7 @@ use lib.ListN.{get_or, length, set, length-set, replicate, length-replicate, get
 use lib.Seq.{set-append_left, get_or-set_same, get_or-set_other, ext_get_or}
 use borrow.Author.Tests.{eqb-true, eqb-false}
 use Rattle.prelude.proofs.Tests.{or_left, or_right, and_both}
-use Rattle.prelude.proofs.Tables.{length-table, getD_table, table_ext}
+use Rattle.prelude.proofs.Tables.{length-table, get_or-table, table_ext}
 use Rattle.prelude.proofs.Lists.{Each}
 use Rattle.prelude.specs.Prelude.{when◌then◌else◌, bit}
 use Rattle.photograph.specs.Photographs.{Photo, Pixel, pixel}
@@ -54,13 +54,13 @@ read_each P w h cs b f =
 pub sheet-at : (w h : ℕ) (rs : List Pixel) (x y : ℕ) → x < w → y < h → get_or (sheet w h rs) (y * w + x) 0 ≡ bit (is_read x y rs)
 unfolding sheet
 sheet-at w h rs x y hx hy =
-    getD_table (w * h) (λ i. bit (is_read (i % w) (i / w) rs)) (y * w + x) 0 (place-lt w h x y hx hy)
+    get_or-table (w * h) (λ i. bit (is_read (i % w) (i / w) rs)) (y * w + x) 0 (place-lt w h x y hx hy)
     ∙ rw (place-column w x y hx, place-row w x y hx)
 
 pub copy_at : (w h : ℕ) (p : Photo) (rs : List Pixel) (x y : ℕ) → x < w → y < h → get_or (copy w h p rs) (y * w + x) 0 ≡ (when is_read x y rs then p x y else 0)
 unfolding copy
 copy_at w h p rs x y hx hy =
-    getD_table (w * h) (λ i. when is_read (i % w) (i / w) rs then p (i % w) (i / w) else 0) (y * w + x) 0 (place-lt w h x y hx hy)
+    get_or-table (w * h) (λ i. when is_read (i % w) (i / w) rs then p (i % w) (i / w) else 0) (y * w + x) 0 (place-lt w h x y hx hy)
     ∙ rw (place-column w x y hx, place-row w x y hx)
 
 pub length-sheet : (w h : ℕ) (rs : List Pixel) → length (sheet w h rs) ≡ w * h
@@ -154,7 +154,7 @@ module _ (p : Photo) (w : ℕ) where
       ∙ pasted_at a (replicate (w * h) 0) h (i % w) (i / w) ha (mod-lt i pos) (row_lt w h i pos k) (subst (λ (n : ℕ). w * h ≤ n) (sym (length-replicate (w * h) 0)) (le_refl (w * h)))
       ∙ ap (λ (z : ℕ). when is_read (i % w) (i / w) a then p (i % w) (i / w) else z)
       (ap (λ (n : ℕ). get_or (replicate (w * h) 0) n 0) (div-add-mod' i w) ∙ get_or-replicate (w * h) i 0 0 k)
-      ∙ sym (getD_table (w * h) (λ i. when is_read (i % w) (i / w) a then p (i % w) (i / w) else 0) i 0 k))
+      ∙ sym (get_or-table (w * h) (λ i. when is_read (i % w) (i / w) a then p (i % w) (i / w) else 0) i 0 k))
     where
       long : length (pasted p w a (replicate (w * h) 0)) ≡ w * h
       long = length_pasted a (replicate (w * h) 0) ∙ length-replicate (w * h) 0

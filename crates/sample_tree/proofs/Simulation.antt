@@ -1,10 +1,10 @@
--- Two samplers that answer alike and keep related states run every step alike: an engine that holds a cell, and one that does not. By induction on the tree. Assumes nothing.
+-- Two handlers that answer alike and keep related states run every step alike: an engine that holds a cell, and one that does not. By induction on the tree. Assumes nothing.
 use mathlib.Core.Path.{◌≡◌, refl}
 use Rattle.pixel.specs.declared.SourcePixel.{SourcePixel}
 use Rattle.sample_tree.specs.SampleTree.{SampleTree, done, sample}
-use Rattle.sample_tree.specs.Run.{Ran, Sampler, run}
+use Rattle.sample_tree.specs.Run.{Ran, Handler, run}
 
-module _ {S S' : Type 0} (ask : Sampler S) (ask' : Sampler S') (R : S → S' → Type 0) where
+module _ {S S' : Type 0} (ask : Handler S) (ask' : Handler S') (R : S → S' → Type 0) where
   -- one answers as the other, and leaves a related state
   pub record Both {A : Type 0} (x : Ran S A) (y : Ran S' A) : Type 0 where
     pub answers : y.answer ≡ x.answer

@@ -1,8 +1,8 @@
--- How a step is run: by a sampler, from a state. A sampler takes a place and a state to what a sample
--- there shows and the next state; the refinement's is sample.rs, `SourceView::sample` (744 to 750),
--- with the marks. And what a function that samples promises, whatever the sampler. Definitions only,
--- to be believed; the laws are in proofs/Steps, and what a run by the refinement's sampler comes to
--- is in proofs/Meaning.
+-- How a step is run: by a handler of its samples, from a state. A handler takes a place and a state to
+-- what a sample there shows and the next state; the refinement's, `sampler`, is sample.rs,
+-- `SourceView::sample` (744 to 750), with the marks. And what a function that samples promises,
+-- whatever the handler. Definitions only, to be believed; the laws are in proofs/Steps, and what a run
+-- by the refinement's handler comes to is in proofs/Meaning.
 use Rattle.std.specs.Prelude.{◌≡◌, ℕ, List, Float, Option}
 use Rattle.pixel.specs.declared.SourcePixel.{SourcePixel}
 use Rattle.photograph.specs.Photographs.{Photo}
@@ -21,18 +21,18 @@ pub record Ran (S A : Type 0) : Type 0 where
 abbrev pub ran : {S A : Type 0} → A → S → Ran S A
 ran a s = record { answer = a; state = s }
 
-abbrev pub Sampler : Type 0 → Type 0
-Sampler S = SourcePixel → S → Ran S (Option Float)
+abbrev pub Handler : Type 0 → Type 0
+Handler S = SourcePixel → S → Ran S (Option Float)
 
-unfoldable pub run : {S A : Type 0} → Sampler S → SampleTree A → S → Ran S A
+unfoldable pub run : {S A : Type 0} → Handler S → SampleTree A → S → Ran S A
 run ask (done a) s = ran a s
 run ask (sample q k) s = run ask (k (ask q s).answer) (ask q s).state
 
--- Run by the sampler from the state s, the step t ends in a with the state s'.
-pub record Runs {S A : Type 0} (ask : Sampler S) (t : SampleTree A) (a : A) (s s' : S) : Type 0 where
+-- Run by the handler from the state s, the step t ends in a with the state s'.
+pub record Runs {S A : Type 0} (ask : Handler S) (t : SampleTree A) (a : A) (s s' : S) : Type 0 where
   pub runs : run ask t s ≡ ran a s'
 
--- ---- the refinement's sampler
+-- ---- the refinement's handler
 
 -- what it changes as it goes: the mark sheet, the copy, and the count of samples
 pub record State : Type 0 where
@@ -47,5 +47,5 @@ state s c m = record { sheet = s; copy = c; meter = m }
 abbrev pub after : Buffers → Meter → State
 after b m = state b.sheet b.copy (increment m)
 
-unfoldable pub sampler : Scene → Photo → Sampler State
+unfoldable pub sampler : Scene → Photo → Handler State
 sampler e p q s = ran (interpolate p (scene_footprint e q)) (after (marked p e.width (scene_footprint e q) (buffers s.sheet s.copy)) s.meter)

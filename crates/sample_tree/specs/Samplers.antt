@@ -1,15 +1,14 @@
 -- What a function promises that is lent a sampler. Definitions only, to be believed; the laws are in
 -- proofs/Samplers.
 use Rattle.std.specs.Prelude.{◌≡◌}
-use Rattle.photograph.specs.Photographs.{photo}
+use Rattle.photograph.specs.Photographs.{photo_of}
 use Rattle.sample_tree.specs.SampleTree.{SampleTree}
-use Rattle.sample_tree.specs.Run as run
-use Rattle.sample_tree.specs.Run.{State, state, sampler, Runs}
+use Rattle.sample_tree.specs.Run.{Handler, State, state, sampler, Runs}
 use Rattle.sample_tree.specs.declared.Sampler.{Sampler}
 
 -- how it takes a sample
-abbrev pub sampler_of : Sampler → run.Sampler State
-sampler_of s = sampler s.scene (photo s.photograph.bytes.now s.photograph.stride)
+abbrev pub sampler_of : Sampler → Handler State
+sampler_of s = sampler s.scene (photo_of s.photograph)
 
 -- what it has come to
 abbrev pub state_of : Sampler → State

@@ -11,7 +11,7 @@ use photograph::Photograph;
 use pixel::SourcePixel;
 
 // What sampling counts: how many samples were tried.
-#[derive(Clone, Copy)]
+#[derive(Clone, Copy, Default)]
 pub struct Meter {
     pub tried: u64,
 }

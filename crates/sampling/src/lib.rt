@@ -3,7 +3,7 @@
 #![tactic(auto)]
 
 ghost use Rattle.std.specs.Prelude.{◌≡◌, ◌+◌, ◌*◌, ◌<◌, ◌≤◌, length};
-ghost use Rattle.photograph.specs.Photographs.{photo};
+ghost use Rattle.photograph.specs.Photographs.{photo_of};
 ghost use Rattle.footprint.specs.Footprints.{scene_footprint};
 ghost use Rattle.sampling.specs.Sampling.{cell_of, bilinear, Ordered, sample_bilinear};
 ghost use Rattle.sampling.specs.Marks.{buffers, written, cell_marked, ReadsSample};
@@ -35,7 +35,7 @@ pub struct CellBytes {
 // The bytes of four pixels, where the photograph reaches the last of them.
 fn read_cell(photograph: Photograph, cell: CellPixels) -> CellBytes
     requires { cell.y1 * photograph.stride + cell.x1 < length photograph.bytes.now }
-    ensures { result ≡ cell_of (photo photograph.entry.bytes.now photograph.entry.stride)
+    ensures { result ≡ cell_of (photo_of photograph.entry)
         cell.x0 cell.y0 cell.x1 cell.y1 }
 {
     let stride = photograph.stride;
@@ -51,9 +51,9 @@ fn read_cell(photograph: Photograph, cell: CellPixels) -> CellBytes
     }
 }
 
-// The bytes of four pixels. One test does for all where the photograph is whole, as it is behind entry check 2.
+// The bytes of four pixels. One test does for all where the photograph is whole, as it is behind its entry checks.
 fn cell_at(photograph: Photograph, cell: CellPixels) -> CellBytes
-    ensures { result ≡ cell_of (photo photograph.entry.bytes.now photograph.entry.stride)
+    ensures { result ≡ cell_of (photo_of photograph.entry)
         cell.x0 cell.y0 cell.x1 cell.y1 }
 {
     if photograph::place(photograph.stride, cell.x1, cell.y1) < photograph.bytes.len() {
@@ -118,8 +118,9 @@ fn mark_cell(sheet: &mut [u8], copy: &mut [u8], width: u32, cell: CellPixels, by
 }
 
 // What a sample shows that falls at a footprint. The pixels that it reads are marked and copied, in rows of
-// `width` bytes. The order of the pixels is asked for here, and not in `Footprint`, which the definitions build
-// without proofs.
+// `width` bytes. Sheet and copy are two parameters: lent as one they would be read from memory at each sample, as
+// `profile::localize` says. The order of the pixels is asked for here, and not in `Footprint`, which the definitions
+// build without proofs.
 fn read_sample(
     photograph: Photograph,
     width: u32,
@@ -128,7 +129,7 @@ fn read_sample(
     footprint: Footprint,
 ) -> Option<f64>
     requires { Ordered footprint }
-    ensures { ReadsSample (photo photograph.entry.bytes.now photograph.entry.stride) width footprint
+    ensures { ReadsSample (photo_of photograph.entry) width footprint
         result (buffers sheet.old copy.old) (buffers sheet.new copy.new) }
 {
     match footprint {
@@ -158,7 +159,7 @@ pub fn sample_at(
     copy: &mut [u8],
     p: SourcePixel,
 ) -> Option<f64>
-    ensures { ReadsSample (photo photograph.entry.bytes.now photograph.entry.stride) scene.width
+    ensures { ReadsSample (photo_of photograph.entry) scene.width
         (scene_footprint scene p) result
         (buffers sheet.old copy.old) (buffers sheet.new copy.new) }
 {
@@ -168,8 +169,8 @@ pub fn sample_at(
 
 // ---- the public call
 
-// The sample at x, y, or why there is none: the photograph's refusal, or `Outside`. No marks are wanted, so an
-// empty sheet and an empty copy are lent.
+// The sample at x, y, or why there is none: the photograph's refusal, or `Outside`. Width and height go side by side,
+// as `photograph` says. No marks are wanted, so an empty sheet and an empty copy are lent.
 pub fn sample_bilinear(
     photograph: Photograph,
     width: u32,
@@ -183,8 +184,6 @@ pub fn sample_bilinear(
 {
     photograph.check(width, height)?;
     let footprint = footprint::footprint_at(width, height, border, x, y);
-    let mut unmarked = [0u8; 0];
-    let mut uncopied = [0u8; 0];
-    let shown = read_sample(photograph, width, &mut unmarked, &mut uncopied, footprint);
+    let shown = read_sample(photograph, width, &mut [], &mut [], footprint);
     shown.ok_or(Refusal::Outside)
 }

@@ -3,7 +3,7 @@
 // of the larger of it and the value of the line before; whether it is finite; its whole part.
 #![tactic(auto)]
 
-use test_io::print_number;
+use test_io::{print_hex, print_number};
 
 // The value of a digit. The list has no other character.
 fn digit(c: u8) -> u64 {
@@ -17,8 +17,7 @@ fn number(digits: &[u8]) -> u64 {
 
 // A value's bit pattern, printed.
 fn print_bits(x: f64) {
-    io::write_all(1, b" ");
-    io::print_hex(1, ieee::bits_of(x), 16);
+    print_hex(ieee::bits_of(x));
 }
 
 // What each function makes of a value, printed on one line.

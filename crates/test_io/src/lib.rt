@@ -1,14 +1,14 @@
-// What the test programs share: the list of cards that they read, and a number as they print it.
+// What the test programs share: the list of cards that they read, and numbers as they print them.
 #![tactic(auto)]
 
 ghost use Rattle.std.specs.Prelude.{◌≤◌, length, IfSome};
 
 // A list has fewer cards than this.
-pub const MANY: u64 = 1000000;
+const MANY: u64 = 1000000;
 
 // Reads the next card, behind its length in three bytes, to the front of `space`, and answers its length; none where the
 // list has ended.
-pub fn next_card(space: &mut [u8]) -> Option<usize>
+fn next_card(space: &mut [u8]) -> Option<usize>
     ensures { IfSome result (λ n. n ≤ length space.new) }
 {
     let mut head = [0u8; 3];
@@ -21,8 +21,35 @@ pub fn next_card(space: &mut [u8]) -> Option<usize>
     Some(n)
 }
 
+// What a test program does with a card. A trait, since a closure that is called would have to be required to be callable.
+pub trait CardTest {
+    // Runs a card and prints what it comes to.
+    fn run(card: &[u8]);
+}
+
+// Reads the list of cards and runs each, behind a line with its index. Nothing says that the input ends, so the cards are
+// counted to a number that no list has.
+pub fn run_cards<T: CardTest>() {
+    let mut buffer = io::large_buffer();
+    for index in 0..MANY {
+        let Some(n) = next_card(&mut buffer) else {
+            return;
+        };
+        io::write_all(1, b"card");
+        print_number(index);
+        io::write_all(1, b"\n");
+        T::run(&buffer[..n]);
+    }
+}
+
 // A number behind a space, printed.
 pub fn print_number(n: u64) {
     io::write_all(1, b" ");
     io::print_decimal(1, n);
+}
+
+// A number behind a space in 16 hexadecimal digits, printed.
+pub fn print_hex(n: u64) {
+    io::write_all(1, b" ");
+    io::print_hex(1, n, 16);
 }

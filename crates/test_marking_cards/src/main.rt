@@ -9,7 +9,7 @@ use bytes::{count_ones, digest, front, is_poison, poison_all};
 use corners::Answer;
 use number::Refusal;
 use others::{HEAD, over_copy, over_others, shape_of};
-use test_io::{MANY, next_card, print_number};
+use test_io::{CardTest, print_hex, print_number};
 
 // The poison of runs that are asked what they left of it.
 const POISON: u8 = 17;
@@ -27,12 +27,6 @@ fn print_bit(b: bool) {
     print_number(u64::from(b));
 }
 
-// The digest of some bytes, printed.
-fn print_digest(s: &[u8]) {
-    io::write_all(1, b" ");
-    io::print_hex(1, digest(s), 16);
-}
-
 // What two runs have in common, printed.
 fn print_same(s: Same) {
     print_bit(s.answer);
@@ -48,14 +42,6 @@ fn print_left(sheet: &[u8], copy: &[u8], n: usize) {
     io::write_all(1, b"\n");
 }
 
-// How many pixels are marked, a digest of the sheet and one of the copy.
-fn print_marks(sheet: &[u8], copy: &[u8]) {
-    io::write_all(1, b"marks");
-    print_number(count_ones(sheet));
-    print_digest(sheet);
-    print_digest(copy);
-}
-
 // The marking run, on buffers that are dirty before.
 fn run_on_poison(card: &[u8], sheet: &mut [u8], copy: &mut [u8], seed: u8) -> Answer {
     poison_all(sheet, seed);
@@ -63,41 +49,9 @@ fn run_on_poison(card: &[u8], sheet: &mut [u8], copy: &mut [u8], seed: u8) -> An
     cards::run_job_marking(card, sheet, copy)
 }
 
-// Another run, on poison of its own, held to what the first one printed and left.
-fn again(card: &[u8], text: &[u8], sheet: &[u8], copy: &[u8], seed: u8) -> Same {
-    let mut sheet_space = io::large_buffer();
-    let mut copy_space = io::large_buffer();
-    let sheet_again: &mut [u8] = &mut sheet_space;
-    let copy_again: &mut [u8] = &mut copy_space;
-    let mut text_again = [0u8; 1024];
-    let answer = run_on_poison(card, sheet_again, copy_again, seed);
-    let end = report::answer_lines(answer, &mut text_again);
-    Same {
-        answer: text == &text_again[..end],
-        sheet: sheet == front(sheet_again, sheet.len()),
-        copy: copy == front(copy_again, copy.len()),
-    }
-}
-
 // Whether anything differs between two runs.
 fn differs(s: Same) -> bool {
     !s.sheet || !s.copy
-}
-
-// Over the blanked copy with one marked pixel changed, sheet or copy must differ.
-fn print_changed(card: &[u8], text: &[u8], sheet: &[u8], copy: &[u8], other: &mut [u8]) {
-    let Some(i) = sheet.iter().position(|mark| *mark == 1) else {
-        io::write_all(1, b"changed none\n");
-        return;
-    };
-    let end = over_copy(other, card, copy);
-    if let Some(byte) = other.get_mut(HEAD + i) {
-        *byte = 255 - *byte;
-    }
-    let s = again(front(other, end), text, sheet, copy, 3);
-    io::write_all(1, b"changed");
-    print_bit(differs(s));
-    io::write_all(1, b"\n");
 }
 
 // A run on a sheet or a copy that is too short, and whether both are as they were.
@@ -120,19 +74,6 @@ fn run_both_short(card: &[u8], n: usize) {
     }
 }
 
-// The runs over other photographs.
-fn run_others(card: &[u8], text: &[u8], sheet: &[u8], copy: &[u8]) {
-    let mut space = io::large_buffer();
-    let other: &mut [u8] = &mut space;
-    let copy_end = over_copy(other, card, copy);
-    io::write_all(1, b"copy");
-    print_same(again(front(other, copy_end), text, sheet, copy, 30));
-    let others_end = over_others(other, card, sheet);
-    io::write_all(1, b"others");
-    print_same(again(front(other, others_end), text, sheet, copy, 211));
-    print_changed(card, text, sheet, copy, other);
-}
-
 // Whether a run that ends so writes nothing.
 fn writes_nothing(answer: Answer) -> bool {
     match answer {
@@ -141,46 +82,121 @@ fn writes_nothing(answer: Answer) -> bool {
     }
 }
 
-// What a run left, and where it wrote, the runs over other photographs.
-fn print_run(card: &[u8], answer: Answer, text: &[u8], sheet: &[u8], copy: &[u8]) {
-    io::write_all(1, text);
-    if writes_nothing(answer) {
-        io::write_all(1, b"nothing");
-        print_left(sheet, copy, 0);
-        return;
-    }
-    let n = shape_of(card).area();
-    print_marks(front(sheet, n), front(copy, n));
-    print_left(sheet, copy, n);
-    run_others(card, text, front(sheet, n), front(copy, n));
-    run_both_short(card, n);
+// A run that has ended: its card, what it printed, and its sheet and copy as it left them.
+#[derive(Clone, Copy)]
+struct Run<'a> {
+    card: &'a [u8],
+    text: &'a [u8],
+    sheet: &'a [u8],
+    copy: &'a [u8],
 }
 
-// One card, run on dirty buffers in every way that is tried.
-fn run(card: &[u8], sheet: &mut [u8], copy: &mut [u8]) {
+impl<'a> Run<'a> {
+    // The run with n pixels of its sheet and copy.
+    fn cut(self, n: usize) -> Run<'a> {
+        Run {
+            card: self.card,
+            text: self.text,
+            sheet: front(self.sheet, n),
+            copy: front(self.copy, n),
+        }
+    }
+
+    // Another card, run on poison of its own, held to what this run printed and left.
+    fn again(self, card: &[u8], seed: u8) -> Same {
+        let mut sheet_space = io::large_buffer();
+        let mut copy_space = io::large_buffer();
+        let sheet: &mut [u8] = &mut sheet_space;
+        let copy: &mut [u8] = &mut copy_space;
+        let mut text = [0u8; 1024];
+        let answer = run_on_poison(card, sheet, copy, seed);
+        let end = report::answer_lines(answer, &mut text);
+        Same {
+            answer: self.text == &text[..end],
+            sheet: self.sheet == front(sheet, self.sheet.len()),
+            copy: self.copy == front(copy, self.copy.len()),
+        }
+    }
+
+    // Over the blanked copy with one marked pixel changed, sheet or copy must differ.
+    fn print_changed(self, other: &mut [u8]) {
+        let Some(i) = self.sheet.iter().position(|mark| *mark == 1) else {
+            io::write_all(1, b"changed none\n");
+            return;
+        };
+        let end = over_copy(other, self.card, self.copy);
+        if let Some(byte) = other.get_mut(HEAD + i) {
+            *byte = 255 - *byte;
+        }
+        let s = self.again(front(other, end), 3);
+        io::write_all(1, b"changed");
+        print_bit(differs(s));
+        io::write_all(1, b"\n");
+    }
+
+    // The runs over other photographs.
+    fn print_others(self) {
+        let mut space = io::large_buffer();
+        let other: &mut [u8] = &mut space;
+        let copy_end = over_copy(other, self.card, self.copy);
+        io::write_all(1, b"copy");
+        print_same(self.again(front(other, copy_end), 30));
+        let others_end = over_others(other, self.card, self.sheet);
+        io::write_all(1, b"others");
+        print_same(self.again(front(other, others_end), 211));
+        self.print_changed(other);
+    }
+
+    // How many pixels are marked, a digest of the sheet and one of the copy.
+    fn print_marks(self) {
+        io::write_all(1, b"marks");
+        print_number(count_ones(self.sheet));
+        print_hex(digest(self.sheet));
+        print_hex(digest(self.copy));
+    }
+
+    // What the run left, and where it wrote, the runs over other photographs.
+    fn print(self, answer: Answer) {
+        io::write_all(1, self.text);
+        if writes_nothing(answer) {
+            io::write_all(1, b"nothing");
+            print_left(self.sheet, self.copy, 0);
+            return;
+        }
+        let n = shape_of(self.card).area();
+        self.cut(n).print_marks();
+        print_left(self.sheet, self.copy, n);
+        self.cut(n).print_others();
+        run_both_short(self.card, n);
+    }
+}
+
+// One card, run on dirty buffers in every way that is tried. Texts have a fixed size, as there is no heap.
+fn run_on_dirty(card: &[u8], sheet: &mut [u8], copy: &mut [u8]) {
     let mut text = [0u8; 1024];
     let answer = run_on_poison(card, sheet, copy, POISON);
     let end = report::answer_lines(answer, &mut text);
-    print_run(card, answer, &text[..end], sheet, copy);
+    let run = Run {
+        card,
+        text: &text[..end],
+        sheet,
+        copy,
+    };
+    run.print(answer);
 }
 
-// A card, run.
-fn run_next(index: u64, card: &[u8]) {
-    io::write_all(1, b"card");
-    print_number(index);
-    io::write_all(1, b"\n");
-    let mut sheet = io::large_buffer();
-    let mut copy = io::large_buffer();
-    run(card, &mut sheet, &mut copy);
-}
+// What each card marks, and what that shows.
+struct Marks;
 
-// Nothing says that the input ends, so the cards are counted to a number that no list has.
-fn main() {
-    let mut buffer = io::large_buffer();
-    for index in 0..MANY {
-        let Some(n) = next_card(&mut buffer) else {
-            break
-        };
-        run_next(index, &buffer[..n]);
+impl CardTest for Marks {
+    // A card, run on buffers of its own.
+    fn run(card: &[u8]) {
+        let mut sheet = io::large_buffer();
+        let mut copy = io::large_buffer();
+        run_on_dirty(card, &mut sheet, &mut copy);
     }
+}
+
+fn main() {
+    test_io::run_cards::<Marks>();
 }

@@ -4,7 +4,7 @@ use Rattle.edge.proofs.Probing.{line_fitted}
 use Rattle.edge.proofs.refine_edge.Goals as goal
 
 pub returns-then-len : goal.returns-then-len
-returns-then-len c = rw (← c.length_of-len.ensures, c.if-len.true) (end start)
+returns-then-len c = rw (← c.length_of-len.ensures, c.if-len.true, c.no_stat.ensures) (end start)
 
 pub returns : goal.returns
 returns c =

@@ -1,4 +1,4 @@
--- `ieee::root::rounded_root` meets its contract. `Window.antt` has the exact square and what the tests say. Assumes nothing.
+-- `ieee_root::rounded_root` meets its contract. `Window.antt` has the exact square and what the tests say. Assumes nothing.
 use mathlib.Core.Path.{subst}
 use Prim.Native.Nat.{ℕ, ◌+◌, ◌-◌, ◌*◌, ◌%◌, ◌^◌}
 use native.Mathlib.Omega.{arith}
@@ -10,19 +10,19 @@ use Rattle.ieee_root.proofs.rounded_root.Goals.{After-guess-t, Start}
 
 -- two below the guess
 abbrev t : After-guess-t → ℕ
-t c = c.guess-t.result - 2
+t c = c.guess-t.result.digits - 2
 
 squared : (c : After-guess-t) → Square (t c)
 squared c = square (t c) (omega arith)
 
 -- m << p
 abbrev a : Start → ℕ
-a c = c.args.m * 2 ^ c.args.p % 2 ^ 64
+a c = c.args.m.digits * 2 ^ c.args.p % 2 ^ 64
 
-held : (c : Start) → Shifted c.args.m c.args.p (a c)
-held c = shifted c.args.m c.args.p c.requires.parity c.requires.mantissa.0 c.requires.mantissa.1
+held : (c : Start) → Shifted c.args.m.digits c.args.p (a c)
+held c = shifted c.args.m.digits c.args.p c.requires.parity c.args.m.normal.0 c.args.m.normal.1
 
-exact : (c : Start) (r : ℕ) → NearRoot (a c * 2 ^ 52) r → NearRoot (c.args.m * 2 ^ c.args.p * 2 ^ 52) r
+exact : (c : Start) (r : ℕ) → NearRoot (a c * 2 ^ 52) r → NearRoot (c.args.m.digits * 2 ^ c.args.p * 2 ^ 52) r
 exact c r N = subst (λ (n : ℕ). NearRoot (n * 2 ^ 52) r) (held c).0 N
 
 pub returns-then-a-hi : goal.returns-then-a-hi

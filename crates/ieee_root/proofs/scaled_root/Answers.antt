@@ -1,4 +1,4 @@
--- `ieee::root::scaled_root` meets its contract. m * 2 ^ g is n * 4 ^ k, with n = m * 2 ^ (g % 2) * 2 ^ 52 and k = g / 2 - 26. Assumes nothing.
+-- `ieee_root::scaled_root` meets its contract. m * 2 ^ g is n * 4 ^ k, with n = m * 2 ^ (g % 2) * 2 ^ 52 and k = g / 2 - 26. Assumes nothing.
 use mathlib.Core.Path.{◌≡◌, sym, ap, ◌∙◌, subst}
 use Prim.Native.Nat.{ℕ, ◌+◌, ◌-◌, ◌*◌, ◌/◌, ◌%◌, ◌^◌, ◌≤◌, ◌<◌}
 use native.Mathlib.Omega.{arith}
@@ -44,19 +44,19 @@ module _ (m g a r : ℕ) (S : Shifted m (g % 2) a) (G : 1022 ≤ g) (H : g < 312
 
 -- m << (g % 2), which the call works on
 abbrev a : Start → ℕ
-a c = c.args.m * 2 ^ (c.args.g % 2)
+a c = c.args.m.digits * 2 ^ (c.args.g % 2)
 
-held : (c : Start) → Shifted c.args.m (c.args.g % 2) (a c)
+held : (c : Start) → Shifted c.args.m.digits (c.args.g % 2) (a c)
 held c =
-    let s = shifted c.args.m (c.args.g % 2) (omega arith) c.requires.mantissa.0 c.requires.mantissa.1 in
-    subst (λ (z : ℕ). Shifted c.args.m (c.args.g % 2) z) s.0 s
+    let s = shifted c.args.m.digits (c.args.g % 2) (omega arith) c.args.m.normal.0 c.args.m.normal.1 in
+    subst (λ (z : ℕ). Shifted c.args.m.digits (c.args.g % 2) z) s.0 s
 
 pub float_from_bits-result : goal.float_from_bits-result
 float_from_bits-result c =
     let s = (goal.at.float_from_bits-result c).Start in
-    no_nan_small _ (sum_lt s.args.m s.args.g (a s) c.rounded_root-r.result (held s) s.requires.exponent.0 s.requires.exponent.1 c.rounded_root-r.ensures)
+    no_nan_small _ (sum_lt s.args.m.digits s.args.g (a s) c.rounded_root-r.result (held s) s.requires.exponent.0 s.requires.exponent.1 c.rounded_root-r.ensures)
 
 pub returns : goal.returns
 returns c =
     let s = (goal.at.returns c).Start in
-    result s.args.m s.args.g (a s) c.rounded_root-r.result (held s) s.requires.exponent.0 s.requires.exponent.1 c.rounded_root-r.ensures
+    result s.args.m.digits s.args.g (a s) c.rounded_root-r.result (held s) s.requires.exponent.0 s.requires.exponent.1 c.rounded_root-r.ensures

@@ -1,4 +1,4 @@
--- `ieee::sqrt` meets its contract. The tests against 0.0 leave the values above zero, whose patterns `Inputs.antt` reads. Assumes nothing.
+-- `ieee_root::sqrt` meets its contract. The tests against 0.0 leave the values above zero, whose patterns `Inputs.antt` reads. Assumes nothing.
 use mathlib.Core.Path.{◌≡◌, sym, ap, ◌∙◌, subst}
 use Prim.Native.Nat.{ℕ, ◌+◌, ◌-◌, ◌*◌, ◌/◌, ◌%◌, ◌^◌, ◌≤◌, ◌<◌}
 use native.Mathlib.Omega.{arith}
@@ -8,7 +8,7 @@ use lib.Ieee.{Float, binary64, fits, to_bits, lt, eq}
 use lib.Ieee.Positive.{above}
 use Rattle.ieee_root.specs.Root.{root, root_units}
 use Rattle.ieee.proofs.Patterns.{yes, zero_is, zero_by_zero}
-use Rattle.ieee_root.proofs.Inputs.{above_zero, root_zero, root_none, small_root, infinite_root, normal_root, digits_are, digits_between, Lifted, lifted, lifted_same}
+use Rattle.ieee_root.proofs.Inputs.{above_zero, root_zero, root_none, small_root, infinite_root, normal_root, digits_are, Lifted, lifted, lifted_same}
 use Rattle.ieee_root.proofs.sqrt.Goals as goal
 use Rattle.ieee_root.proofs.sqrt.Goals.{Else-g-eq2047, Start, Then-b-lt4503599627370496, Then-x}
 
@@ -32,8 +32,6 @@ small c = small_root (x c.before.before) (held c.before.before) (over c.before) 
 lift : (c : Then-b-lt4503599627370496) → (11 ≤ count_leading_zeros 64 (b c.before.before)) × Lifted (b c.before.before) (count_leading_zeros 64 (b c.before.before) - 11)
 lift c = lifted (b c.before.before) (small c).0 c.if-b-lt4503599627370496.true
 
--- ---- the infinity
-
 -- ---- a normal value
 
 large : (c : Else-g-eq2047) → (b c.before.before.before / 2 ^ 52 < 2047)
@@ -42,16 +40,21 @@ large c =
     let d = c.before.before in
     normal_root (x d.before) (held d.before) (over d) c.if-b-lt4503599627370496.false c.if-g-eq2047.false
 
--- ---- a zero, and what has no root
+-- ---- the answers
 
 pub overflow_sub-s : goal.overflow_sub-s
 overflow_sub-s c = (lift (goal.at.overflow_sub-s c).Then-b-lt4503599627370496).0
+
+pub invariant_of-scaled_root : goal.invariant_of-scaled_root
+invariant_of-scaled_root c =
+    let l = (lift (goal.at.invariant_of-scaled_root c).Then-b-lt4503599627370496).1 in
+    record { normal = subst (λ (m : ℕ). (2 ^ 52 ≤ m) × (m < 2 ^ 53)) (sym l.1) (l.2, l.3) }
 
 pub scaled_root-requires : goal.scaled_root-requires
 scaled_root-requires c =
     let l = (lift (goal.at.scaled_root-requires c).Then-b-lt4503599627370496).1 in
     let h = l.0 in
-    record { mantissa = subst (λ (m : ℕ). (2 ^ 52 ≤ m) × (m < 2 ^ 53)) (sym l.1) (l.2, l.3); exponent = (omega arith, omega arith) }
+    record { exponent = (omega arith, omega arith) }
 
 pub returns-then-b-lt4503599627370496 : goal.returns-then-b-lt4503599627370496
 returns-then-b-lt4503599627370496 c =
@@ -72,17 +75,10 @@ returns-then-g-eq2047 c =
 pub overflow_add-g : goal.overflow_add-g
 overflow_add-g c = let h = (large (goal.at.overflow_add-g c).Else-g-eq2047).0 in omega arith
 
-exponent_low : {y : ℕ} → 4503599627370496 ≤ y → 1022 ≤ y / 4503599627370496 + 1073
-exponent_low h = omega arith
-
 pub scaled_root-requires-then-x : goal.scaled_root-requires-then-x
 scaled_root-requires-then-x c =
-    let y = b (goal.at.scaled_root-requires-then-x c).Start in
     let h = (large (goal.at.scaled_root-requires-then-x c).Else-g-eq2047).0 in
-    record {
-      mantissa = subst (λ (m : ℕ). (2 ^ 52 ≤ m) × (m < 2 ^ 53)) (sym (digits_are y)) (digits_between y);
-      exponent = (exponent_low c.if-b-lt4503599627370496.false, omega arith);
-    }
+    record { exponent = (omega arith, omega arith) }
 
 pub returns-then-x : goal.returns-then-x
 returns-then-x c =

@@ -15,10 +15,12 @@ loop-j-preserved c =
           rw w.left-is (sought_past e.settings (grid_of e.dim e.modules.now) e.edge c.args.from c.args.skip c.loop-j.j c.loop-j.left c.loop-j-test.true c.is_candidate.ensures w.if-is_candidate.false c.loop-j.invariant)
     ]
 
-pub returns-then-left-eq0 : goal.returns-then-left-eq0
-returns-then-left-eq0 c =
+pub returns-then-left-eq0-clause-found : goal.returns-then-left-eq0-clause-found
+returns-then-left-eq0-clause-found c =
     let e = c.args.self.now in
-    sought_here e.settings (grid_of e.dim e.modules.now) e.edge c.args.from c.args.skip c.loop-j.j c.is_candidate.ensures c.if-is_candidate.true c.if-left-eq0.true c.loop-j.invariant
+    sought_here e.settings (grid_of e.dim e.modules.now) e.edge c.args.from c.args.skip c.loop-j.j c.loop-j-test.true c.is_candidate.ensures c.if-is_candidate.true c.if-left-eq0.true c.loop-j.invariant
 
-pub returns : goal.returns
-returns c = sought_none _ _ _ _ _ c.loop-j.j c.loop-j.left (omega arith) c.loop-j.invariant
+pub returns-clause-none : goal.returns-clause-none
+returns-clause-none c =
+    let e = c.args.self.now in
+    sought_none e.settings (grid_of e.dim e.modules.now) e.edge c.args.from c.args.skip c.loop-j.j c.loop-j.left (omega arith) c.loop-j.invariant
