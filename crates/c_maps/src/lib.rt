@@ -24,7 +24,7 @@ pub fn square_to_quad(corners: &[f64], map: &mut [f64]) -> u32
     number::number_of(&square)
 }
 
-// The map of one quad to another, or 8 where one has none.
+// The map of one quad to another, or 8 where one has none. Of the shape that `c_lines::intersect_lines` speaks of.
 pub fn quad_to_quad(from: &[f64], to: &[f64], map: &mut [f64]) -> u32
     ensures value { result ≡ number_of (map_answer (quad_to_quad (quad_of from.now) (quad_of to.now))) }
     ensures map_after { map.new

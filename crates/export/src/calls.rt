@@ -1,4 +1,5 @@
 // The refinement calls: each hands on what the one of its name in `c_refine` or `c_marking` gives.
+// The parameters are those of the C interface.
 ghost use Rattle.std.specs.Prelude.{None};
 ghost use Rattle.request.specs.Requests.{photograph};
 ghost use Rattle.refine.specs.Refine.{refine};

@@ -1,4 +1,5 @@
 // The leaf calls: each hands on what the one of its name in `c_maps`, `c_lines`, `c_samples` or `c_edge_points` gives.
+// The parameters are those of the C interface.
 ghost use Rattle.std.specs.Prelude.{◌≡◌, None, set};
 ghost use Rattle.std.specs.Result.{result_unwrap_or};
 ghost use Rattle.std.specs.Float.{binary64};

@@ -9,8 +9,8 @@ ghost use Rattle.fit_c.specs.Edge.{edge_of, line_written, written};
 
 use fit::EdgeFit;
 
-// `fit::fit_edge` for C, under the default settings: the line goes to one buffer, and probed, fit,
-// dropped and valid to another.
+// `fit::fit_edge` for C, under the default settings: three lists, as C lends them. The line goes to one buffer, and
+// probed, fit, dropped and valid to another.
 #[unsafe(no_mangle)]
 pub extern "C" fn fit_edge(
     xs: &[f64],

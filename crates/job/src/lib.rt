@@ -51,7 +51,7 @@ fn corners_of(s: &[u8]) -> [WorkingPixel; 4]
     ]
 }
 
-// The intrinsics whose four floats stand from i on.
+// The intrinsics whose four floats stand from i on. Read as in `c_views`, whose floats are one index apart.
 fn intrinsics_at(s: &[u8], i: usize) -> CameraIntrinsics
     requires { i < 4096 }
     ensures { result ≡ intrinsics_at s.now i }

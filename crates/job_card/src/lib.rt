@@ -59,7 +59,8 @@ fn fields_end(card: &[u8], n: u8) -> Option<usize>
     Some(i)
 }
 
-// Whether a card has the fields 1 to n, and nothing behind them.
+// Whether a card has the fields 1 to n, and nothing behind them. Callers may ask of any number, past the eight that a card
+// has too.
 pub fn has_exactly(card: &[u8], n: u8) -> bool
     ensures { result ≡ has_exactly card.now n }
 {
@@ -96,7 +97,8 @@ pub fn find_field(card: &[u8], tag: u8) -> Result<&[u8], Refusal>
     }
 }
 
-// The contents of a field of a job card, as `find_field` hands them back; empty where it refuses.
+// The contents of a field of a job card, as `find_field` hands them back; empty where it refuses. A tag is a number, as
+// `suits_tag` says.
 pub fn part(card: &[u8], tag: u8) -> &[u8]
     ensures { result.now ≡ field_part card.now tag }
 {
