@@ -1,4 +1,5 @@
-// What the test programs share: the list of cards that they read, and numbers as they print them.
+// What the test programs share: the list of cards that they read, and numbers as they print them. What is printed no clause
+// says, as `io` promises nothing of it: the gate compares it with the stored lists.
 #![tactic(auto)]
 
 ghost use Rattle.std.specs.Prelude.{◌≤◌, length, IfSome};

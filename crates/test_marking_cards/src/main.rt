@@ -42,7 +42,7 @@ fn print_left(sheet: &[u8], copy: &[u8], n: usize) {
     io::write_all(1, b"\n");
 }
 
-// The marking run, on buffers that are dirty before.
+// The marking run, on buffers that are dirty before. Sheet and copy are two here and below, as the call takes them.
 fn run_on_poison(card: &[u8], sheet: &mut [u8], copy: &mut [u8], seed: u8) -> Answer {
     poison_all(sheet, seed);
     poison_all(copy, seed);
