@@ -27,7 +27,9 @@
    Lists:
      corners  x0, y0 to x3, y3: top left, top right, bottom right, bottom left
      camera   fx, fy, cx, cy of the source, which is the photograph, then of the rectified picture,
-              then k1, k2, p1, p2, k3; these five count only with `lens`
+              then the coefficients of the lens, whose kind goes beside the list as `lens`:
+              0 no lens, and no coefficient is read; 1 Brown-Conrady: k1, k2, p1, p2, k3; 2 fisheye,
+              as OpenCV has it: k1, k2, k3, k4. Any other kind is refused by 6
      modules  one byte a module by rows, 1 dark
      map      a11, a21, a31, a12, a22, a32, a13, a23, a33
      line     the centroid's x and y, then the direction's
@@ -70,7 +72,7 @@ enum {
     TRUFOLMESCA_SCALE = 4,
     /* A rough corner is not finite, or lies beyond 2 to the 20 after the division by the scale. */
     TRUFOLMESCA_CORNER = 5,
-    /* A number of the camera is not finite, or a focal length is not above 0. */
+    /* A number of the camera is not finite, a focal length not above 0, or the lens of no kind. */
     TRUFOLMESCA_LENS = 6,
     /* The sheet or the copy is shorter than width x height. */
     TRUFOLMESCA_SHEET = 7,
@@ -102,6 +104,13 @@ enum {
     TRUFOLMESCA_PLACE = 20
 };
 
+/* The kind of a camera's lens: none; by Brown and Conrady, with k1, k2, p1, p2, k3; fisheye, with
+   k1, k2, k3, k4, of which four zeros still are a lens, the equidistant one. Before the fisheye came
+   this was a bool, and false and true still say the first two. */
+#define TRUFOLMESCA_NO_LENS 0
+#define TRUFOLMESCA_BROWN_CONRADY 1
+#define TRUFOLMESCA_FISHEYE 2
+
 /* What GCC and Clang are told of a call: that its number is not to be left unread, and that no
    pointer is null. They warn of a null pointer that they see; nothing looks for one when the call
    is made. They may also take a pointer for not null because it is passed, and drop a test that
@@ -132,7 +141,7 @@ TRUFOLMESCA_CALL uint32_t trufolmesca_refine_corners_mapped(
     const uint8_t *bytes, size_t bytes_len, uint32_t width, uint32_t height, uint32_t stride,
     const uint8_t *modules, size_t modules_len, uint32_t dim, double sx, double sy,
     const double *corners, size_t corners_len, bool inverted,
-    const double *camera, size_t camera_len, bool lens,
+    const double *camera, size_t camera_len, uint32_t lens,
     double *places, size_t places_len, uint32_t *counts, size_t counts_len);
 
 /* The same two, marked. Sheet and copy are width x height bytes or more: with less it is 7, behind
@@ -150,7 +159,7 @@ TRUFOLMESCA_CALL uint32_t trufolmesca_refine_corners_mapped_marking(
     const uint8_t *bytes, size_t bytes_len, uint32_t width, uint32_t height, uint32_t stride,
     const uint8_t *modules, size_t modules_len, uint32_t dim, double sx, double sy,
     const double *corners, size_t corners_len, bool inverted,
-    const double *camera, size_t camera_len, bool lens,
+    const double *camera, size_t camera_len, uint32_t lens,
     double *places, size_t places_len, uint32_t *counts, size_t counts_len,
     uint8_t *sheet, size_t sheet_len, uint8_t *copy, size_t copy_len);
 
@@ -163,7 +172,7 @@ TRUFOLMESCA_CALL uint32_t trufolmesca_sample_bilinear(
 /* Where a rectified place lies in the source picture, the photograph: for each corner that a call
    through a camera gave, with the same camera and lens. 6, 20. */
 TRUFOLMESCA_CALL uint32_t trufolmesca_rectified_to_source(
-    const double *camera, size_t camera_len, bool lens, double x, double y, double *place, size_t place_len);
+    const double *camera, size_t camera_len, uint32_t lens, double x, double y, double *place, size_t place_len);
 
 /* The map of the unit square to four corners, and of one quad to another. 8. */
 TRUFOLMESCA_CALL uint32_t trufolmesca_square_to_quad(
@@ -199,7 +208,7 @@ TRUFOLMESCA_CALL uint32_t trufolmesca_localize_edge_point(
 TRUFOLMESCA_CALL uint32_t trufolmesca_localize_edge_point_mapped(
     const uint8_t *bytes, size_t bytes_len, uint32_t width, uint32_t height, uint32_t stride,
     double coarse_x, double coarse_y, double normal_x, double normal_y, double step, bool inverted, bool inward_differs,
-    const double *camera, size_t camera_len, bool lens,
+    const double *camera, size_t camera_len, uint32_t lens,
     double *point, size_t point_len);
 
 /* The square root, rounded once. */
@@ -263,12 +272,12 @@ struct trufolmesca_intrinsics {
     double fx, fy, cx, cy;
 };
 
-/* The camera of the photograph (source), that of the picture it is rectified to, and the lens by
-   Brown and Conrady, whose five numbers count only with `lens`. */
+/* The camera of the photograph (source), that of the picture it is rectified to, and the lens: its
+   kind, as TRUFOLMESCA_FISHEYE, and its coefficients, of which those that the kind has count. */
 struct trufolmesca_camera {
     struct trufolmesca_intrinsics source, rectified;
-    bool lens;
-    double k1, k2, p1, p2, k3;
+    uint32_t lens;
+    double k1, k2, p1, p2, k3, k4;
 };
 
 /* What is asked: the rough corners (top left, top right, bottom right, bottom left) are in working
@@ -304,12 +313,14 @@ struct trufolmesca_lists {
     const uint8_t *bytes, *modules;
     size_t bytes_len, modules_len;
     double corners[8], camera[13];
-    bool lens;
+    uint32_t lens;
 };
 
-/* A camera as the list of its thirteen numbers, which trufolmesca_rectified_to_source takes too. */
+/* A camera as the list of its thirteen numbers, which trufolmesca_rectified_to_source takes too;
+   the last of a fisheye's is 0, and is not read. */
 static inline void trufolmesca_camera_list(const struct trufolmesca_camera *camera, double list[13]) {
     const struct trufolmesca_intrinsics both[2] = {camera->source, camera->rectified};
+    const bool fisheye = camera->lens == TRUFOLMESCA_FISHEYE;
     int i;
     for (i = 0; i < 2; ++i) {
         list[4 * i] = both[i].fx;
@@ -319,9 +330,9 @@ static inline void trufolmesca_camera_list(const struct trufolmesca_camera *came
     }
     list[8] = camera->k1;
     list[9] = camera->k2;
-    list[10] = camera->p1;
-    list[11] = camera->p2;
-    list[12] = camera->k3;
+    list[10] = fisheye ? camera->k3 : camera->p1;
+    list[11] = fisheye ? camera->k4 : camera->p2;
+    list[12] = fisheye ? 0.0 : camera->k3;
 }
 
 /* The lists of a request: of a null pointer an empty one, and without a camera none is written. */
@@ -338,7 +349,7 @@ static inline void trufolmesca_lists_of(const struct trufolmesca_request *reques
         lists->corners[2 * i] = request->corners[i].x;
         lists->corners[2 * i + 1] = request->corners[i].y;
     }
-    lists->lens = request->camera && request->camera->lens;
+    lists->lens = request->camera ? request->camera->lens : TRUFOLMESCA_NO_LENS;
     if (request->camera) trufolmesca_camera_list(request->camera, lists->camera);
 }
 

@@ -7,12 +7,13 @@ from pathlib import Path
 
 import cv2
 import numpy as np
-from trufolmesca import Camera, Intrinsics, Lens
+from trufolmesca import Camera, Fisheye, Intrinsics, Lens
 
 from tool import Unanswered
 
 MATRIX_NAMES = ("camera_matrix", "cameraMatrix", "CameraMatrix", "mtx", "K")
 LENS_NAMES = ("distortion_coefficients", "distCoeffs", "dist_coeffs", "dist", "D")
+FISHEYE_NAME = "fisheye_model"  # OpenCV's calibration program writes 1 or 0: four coefficients alone could be of either model
 RECTIFIED_NAMES = ("new_camera_matrix", "newCameraMatrix", "newcameramtx")
 NEWTON_STEPS = 50
 CLOSE_PX = 1e-6  # a rough corner needs no more
@@ -66,8 +67,19 @@ def _intrinsics(path: Path, matrix: np.ndarray) -> Intrinsics:
     return Intrinsics(float(matrix[0, 0]), float(matrix[1, 1]), float(matrix[0, 2]), float(matrix[1, 2]))
 
 
-def _lens(path: Path, storage: cv2.FileStorage) -> Lens | None:
-    """The lens of a camera file: k1, k2, p1, p2, k3, or None where the file has none."""
+def _fisheye(path: Path, storage: cv2.FileStorage) -> Fisheye:
+    """The lens of a camera file that says it is a fisheye: k1, k2, k3, k4."""
+    matrix = _matrix(storage, LENS_NAMES)
+    values = np.asarray([] if matrix is None else matrix, float).ravel()
+    if len(values) != 4 or not np.isfinite(values).all():
+        raise Unanswered(f"the camera file {path} is of a fisheye, and its distortion coefficients are not k1, k2, k3, k4")
+    return Fisheye(*values.tolist())
+
+
+def _lens(path: Path, storage: cv2.FileStorage) -> Lens | Fisheye | None:
+    """The lens of a camera file: k1, k2, p1, p2, k3, or those of a fisheye, or None where the file has none."""
+    if storage.getNode(FISHEYE_NAME).real() != 0:
+        return _fisheye(path, storage)
     matrix = _matrix(storage, LENS_NAMES)
     if matrix is None:
         return None
@@ -94,21 +106,33 @@ def to_source(camera: Camera | None, points: np.ndarray) -> np.ndarray:
         return points
     rectified, source = camera.rectified, camera.source
     rays = (points - [rectified.cx, rectified.cy]) / [rectified.fx, rectified.fy]
-    x, y = rays[..., 0], rays[..., 1]
-    if camera.lens is not None:
-        k1, k2, p1, p2, k3 = astuple(camera.lens)
-        r2 = x * x + y * y
-        radial = 1 + r2 * (k1 + r2 * (k2 + r2 * k3))
-        x, y = (x * radial + 2 * p1 * x * y + p2 * (r2 + 2 * x * x),
-                y * radial + p1 * (r2 + 2 * y * y) + 2 * p2 * x * y)
+    x, y = _bent(camera.lens, rays[..., 0], rays[..., 1])
     return np.stack([x * source.fx + source.cx, y * source.fy + source.cy], axis=-1)
+
+
+def _bent(lens: Lens | Fisheye | None, x: np.ndarray, y: np.ndarray) -> tuple[np.ndarray, np.ndarray]:
+    """Places on the picture plane as the lens bends them; no number where a fisheye has no image."""
+    if lens is None:
+        return x, y
+    if isinstance(lens, Fisheye):
+        r = np.hypot(x, y)
+        t = np.arctan2(r, 1.0)
+        t2 = t * t
+        bent = t * (1 + t2 * (lens.k1 + t2 * (lens.k2 + t2 * (lens.k3 + t2 * lens.k4))))
+        scale = np.where(r == 0, 1.0, np.where(bent > 0, bent, math.nan) / np.where(r == 0, 1.0, r))
+        return x * scale, y * scale
+    k1, k2, p1, p2, k3 = astuple(lens)
+    r2 = x * x + y * y
+    radial = 1 + r2 * (k1 + r2 * (k2 + r2 * k3))
+    return (x * radial + 2 * p1 * x * y + p2 * (r2 + 2 * x * x),
+            y * radial + p1 * (r2 + 2 * y * y) + 2 * p2 * x * y)
 
 
 def to_rectified(camera: Camera | None, points: np.ndarray) -> np.ndarray:
     """Where places of the photograph lie in the rectified picture, by steps against the forward map."""
     if camera is None:
         return points
-    guess = np.array(points, float)
+    guess = _first_guess(camera, np.array(points, float))
     for _ in range(NEWTON_STEPS):
         miss = to_source(camera, guess) - points
         if np.abs(miss).max() < CLOSE_PX:
@@ -117,6 +141,16 @@ def to_rectified(camera: Camera | None, points: np.ndarray) -> np.ndarray:
         if not np.isfinite(guess).all():
             break
     raise Unanswered("a rough corner has no counterpart behind this camera: is the camera file of this camera?")
+
+
+def _first_guess(camera: Camera, points: np.ndarray) -> np.ndarray:
+    """Where the steps begin: at the places themselves, behind a fisheye nearer to the axis than where they end, since from beyond
+    it the steps would overshoot."""
+    if not isinstance(camera.lens, Fisheye):
+        return points
+    source, rectified = camera.source, camera.rectified
+    return ((points - [source.cx, source.cy]) * [rectified.fx / source.fx, rectified.fy / source.fy]
+            + [rectified.cx, rectified.cy])
 
 
 def _solved(camera: Camera, points: np.ndarray, miss: np.ndarray) -> np.ndarray:

@@ -148,7 +148,8 @@ def _measure_words(measure: argparse.ArgumentParser) -> None:
     measure.add_argument("--grid", type=grid_file, metavar="FILE",
                          help="the label's modules, a row of 0 and 1 for each row, 1 dark; without it they are read off the picture")
     measure.add_argument("--camera", type=Path, metavar="FILE",
-                         help="the camera and its lens (k1 k2 p1 p2 k3), as OpenCV writes them: YAML, JSON or XML")
+                         help="the camera and its lens (k1 k2 p1 p2 k3, or of a fisheye k1 k2 k3 k4), as OpenCV writes them: "
+                              "YAML, JSON or XML")
     measure.add_argument("--side-mm", type=positive, metavar="MM", help="the label's side, for pixels per millimetre")
     measure.add_argument("--inverted", action="store_true", help="the labels are light on dark (otherwise found out)")
     measure.add_argument("--prepare", type=preparation, default="auto", metavar="auto|off|SIGMA",

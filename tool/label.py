@@ -1,7 +1,7 @@
 """The label in a photograph: the decoder's corners, the modules as the picture shows them, and what they must be."""
 from __future__ import annotations
 
-from dataclasses import dataclass
+from dataclasses import dataclass, replace
 from functools import lru_cache
 
 import cv2
@@ -16,6 +16,7 @@ LEAST_MODULE_PX = 1.5    # below this no module can be told from its neighbour
 DECODER_OFFSET = 0.5     # the decoder counts from the corner of the first pixel, the library from its centre
 DECODER_SCALES = (1, 2, 0.5)  # of 244 rendered labels it found 243 as they were, and the last one enlarged
 MOST_ENLARGED_PX = 1 << 23
+STRIP_ROWS = 256
 # Of 60 rendered labels the finder and timing modules agreed to 0.80 at most in another dimension, to 0.87 in another order of corners,
 # and wholly in the right ones, also with corners a quarter of a module off.
 PATTERN_AGREEMENT = 0.9
@@ -51,8 +52,28 @@ class Reading:
     agreement: float
 
 
-def decode(grey: np.ndarray, inverted: bool | None = None) -> list[Found]:
-    """The QR labels of a picture, dark on light and light on dark, from the top of the picture down."""
+def decode(grey: np.ndarray, inverted: bool | None = None, camera: Camera | None = None) -> list[Found]:
+    """The QR labels of a picture, from the top of the picture down; where there is none and a camera, those of the picture straightened,
+    since the decoder looks for straight edges."""
+    found = _decode(grey, inverted)
+    if found or camera is None:
+        return found
+    return [replace(label, corners=to_source(camera, label.corners)) for label in _decode(straightened(grey, camera), inverted)]
+
+
+def straightened(grey: np.ndarray, camera: Camera) -> np.ndarray:
+    """The camera's rectified picture, as large as the photograph and white where that has no place; by strips, which spares memory."""
+    strips = []
+    for top in range(0, len(grey), STRIP_ROWS):
+        rows, columns = np.mgrid[top:min(top + STRIP_ROWS, len(grey)), 0:grey.shape[1]]
+        places = to_source(camera, np.stack([columns, rows], axis=-1).astype(float))
+        places = np.clip(np.nan_to_num(places, nan=FAR_PX), -FAR_PX, FAR_PX).astype(np.float32)
+        strips.append(cv2.remap(grey, places[..., 0], places[..., 1], cv2.INTER_LINEAR, borderMode=cv2.BORDER_CONSTANT, borderValue=255))
+    return np.concatenate(strips)
+
+
+def _decode(grey: np.ndarray, inverted: bool | None) -> list[Found]:
+    """The labels of a picture as it is, dark on light and light on dark."""
     for scale in DECODER_SCALES:
         if scale > 1 and grey.size > MOST_ENLARGED_PX:
             continue

@@ -157,7 +157,7 @@ def _unread(grey: np.ndarray, corners: np.ndarray, options: Options) -> str:
 
 def _decoded(grey: np.ndarray, options: Options) -> list[Request | Unanswered]:
     """The labels that the decoder found, each with the grid as the picture shows it."""
-    found = label.decode(grey, True if options.inverted else None)
+    found = label.decode(grey, True if options.inverted else None, options.camera)
     if not found:
         raise Unanswered("no QR label was found: give its rough corners by --corners")
     if options.grid is not None and len(found) > 1:

@@ -10,7 +10,7 @@ from typing import Any
 
 import cv2
 import numpy as np
-from trufolmesca import Camera, Intrinsics, Lens
+from trufolmesca import Camera, Fisheye, Intrinsics, Lens
 
 from tool import LARGEST_SIDE, reason
 from tool.record import PICTURES
@@ -89,7 +89,18 @@ def _is_numbers_of(names: tuple[str, ...], value: object) -> bool:
     return isinstance(value, dict) and all(_is_number(value.get(name)) for name in names)
 
 
-_INTRINSICS, _LENS = ("fx", "fy", "cx", "cy"), ("k1", "k2", "p1", "p2", "k3")
+_INTRINSICS, _LENS, _FISHEYE = ("fx", "fy", "cx", "cy"), ("k1", "k2", "p1", "p2", "k3"), ("k1", "k2", "k3", "k4")
+
+
+def _is_fisheye(lens: dict[str, Any]) -> bool:
+    """Whether a lens is a fisheye, which alone has a fourth k."""
+    return "k4" in lens
+
+
+def _is_lens(value: object) -> bool:
+    """Whether a value is a lens of one of the two models, or null."""
+    return value is None or (
+        isinstance(value, dict) and _is_numbers_of(_FISHEYE if _is_fisheye(value) else _LENS, value))
 
 
 def _is_camera(value: object) -> bool:
@@ -97,8 +108,7 @@ def _is_camera(value: object) -> bool:
     return value is None or (
         isinstance(value, dict) and _is_numbers_of(_INTRINSICS, value.get("source"))
         and _is_numbers_of(_INTRINSICS, value.get("rectified"))
-        and (value.get("lens") is None or _is_numbers_of(_LENS, value["lens"]))
-        and "lens" in value)
+        and "lens" in value and _is_lens(value["lens"]))
 
 
 def _is_request(value: object) -> bool:
@@ -177,8 +187,16 @@ def camera_of(fields: dict[str, Any] | None) -> Camera | None:
     if fields is None:
         return None
     source, rectified = (Intrinsics(*(float(fields[part][name]) for name in _INTRINSICS)) for part in ("source", "rectified"))
-    lens = None if fields["lens"] is None else Lens(*(float(fields["lens"][name]) for name in _LENS))
-    return Camera(source, rectified, lens)
+    return Camera(source, rectified, _lens_of(fields["lens"]))
+
+
+def _lens_of(fields: dict[str, Any] | None) -> Lens | Fisheye | None:
+    """The lens of a record."""
+    if fields is None:
+        return None
+    if _is_fisheye(fields):
+        return Fisheye(*(float(fields[name]) for name in _FISHEYE))
+    return Lens(*(float(fields[name]) for name in _LENS))
 
 
 def read_published(path: Path, what: str, request: dict[str, Any]) -> np.ndarray:

@@ -58,10 +58,11 @@ class Label:
 
 @dataclass(frozen=True)
 class Camera:
-    """A camera as the library takes it: fx, fy, cx, cy of the photograph and of the rectified picture, and k1, k2, p1, p2, k3."""
+    """A camera as the library takes it: fx, fy, cx, cy of the photograph and of the rectified picture, and k1, k2, p1, p2, k3, or of
+    a fisheye k1, k2, k3, k4."""
     source: Tuple[float, float, float, float]
     rectified: Tuple[float, float, float, float]
-    lens: Tuple[float, float, float, float, float] = (0.0, 0.0, 0.0, 0.0, 0.0)
+    lens: Tuple[float, ...] = (0.0, 0.0, 0.0, 0.0, 0.0)
 
     @classmethod
     def of_size(cls, size: Tuple[int, int], lens=(-0.18, 0.06, 0.0008, -0.0006, -0.01)) -> "Camera":
@@ -140,7 +141,7 @@ def paint(scene: np.ndarray, label: Label, cover: Coverage) -> np.ndarray:
 
 
 def distorted(camera: Camera, places) -> np.ndarray:
-    """Where rectified places lie in the photograph, by the Brown-Conrady model."""
+    """Where rectified places lie in the photograph, by the lens's model."""
     fx, fy, cx, cy = camera.rectified
     x, y = (np.asarray(places, float) - [cx, cy]).T / np.array([[fx], [fy]])
     bent_x, bent_y = bent(camera.lens, x, y)
@@ -166,6 +167,9 @@ def undistorted(camera: Camera, places) -> np.ndarray:
 
 def bent(lens, x, y):
     """Normalised coordinates as the lens bends them; written apart from tool/camera.py, so that tests hold one against the other."""
+    if len(lens) == 4:
+        scale, _ = fisheye_scale(lens, np.hypot(x, y))
+        return x * scale, y * scale
     k1, k2, p1, p2, k3 = lens
     square = x * x + y * y
     radial = 1.0 + square * (k1 + square * (k2 + square * k3))
@@ -175,14 +179,29 @@ def bent(lens, x, y):
 
 def missed(lens, x, y, goal_x, goal_y):
     """How far the bent place is from its goal, and the bending's four slopes there."""
+    bent_x, bent_y = bent(lens, x, y)
+    if len(lens) == 4:
+        radial, growth = fisheye_scale(lens, np.hypot(x, y))
+        slopes = ((radial + x * x * growth, x * y * growth), (x * y * growth, radial + y * y * growth))
+        return bent_x - goal_x, bent_y - goal_y, slopes
     k1, k2, p1, p2, k3 = lens
     square = x * x + y * y
     radial = 1.0 + square * (k1 + square * (k2 + square * k3))
     growth = 2.0 * (k1 + square * (2 * k2 + square * 3 * k3))
-    bent_x, bent_y = bent(lens, x, y)
     mixed = x * y * growth + 2 * p1 * x + 2 * p2 * y
     slopes = ((radial + x * x * growth + 2 * p1 * y + 6 * p2 * x, mixed), (mixed, radial + y * y * growth + 6 * p1 * y + 2 * p2 * x))
     return bent_x - goal_x, bent_y - goal_y, slopes
+
+
+def fisheye_scale(lens, r):
+    """By how much a fisheye scales a place at the distance r from the axis, and that scale's slope over r, divided by r."""
+    k1, k2, k3, k4 = lens
+    angle = np.arctan(r)
+    bent_angle = angle + k1 * angle ** 3 + k2 * angle ** 5 + k3 * angle ** 7 + k4 * angle ** 9
+    slope = (1 + 3 * k1 * angle ** 2 + 5 * k2 * angle ** 4 + 7 * k3 * angle ** 6 + 9 * k4 * angle ** 8) / (1 + r * r)
+    far = np.maximum(r, 1e-9)
+    scale = np.where(r > 1e-9, bent_angle / far, 1.0)
+    return scale, np.where(r > 1e-9, (slope - scale) / far ** 2, 0.0)
 
 
 def canvas(background: Union[Level, np.ndarray], size: Tuple[int, int]) -> np.ndarray:

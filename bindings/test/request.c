@@ -1,5 +1,6 @@
 /* Compares the calls over a request with the library's own on the same label: request PICTURE GRID ROUGH prints each number, and ends
    with status 1 where an answer, a sheet or a copy differs. PICTURE is examples/label.pgm, or another of its size. */
+#include <math.h>
 #include <stdio.h>
 #include <stdlib.h>
 #include <string.h>
@@ -101,6 +102,12 @@ static void compare_nulls(void) {
     printf("no bytes: %u\n", trufolmesca_refine_marking(&request, &a, sheet, AREA, sheet, 0));
 }
 
+/* The numbers of a fisheye's list, where this file has the header's order for itself; the last is not read. */
+static void list_fisheye(const struct trufolmesca_camera *c) {
+    const double list[13] = {240, 250, 120, 110, 240, 250, 120, 110, c->k1, c->k2, c->k3, c->k4, NAN};
+    memcpy(camera_list, list, sizeof list);
+}
+
 int main(int argc, char **argv) {
     if (argc != 4) return 2;
     read_request(argv + 1);
@@ -112,12 +119,24 @@ int main(int argc, char **argv) {
     request.sy = 0.25;
     for (int i = 0; i < 4; ++i) request.corners[i].x *= 0.5, request.corners[i].y *= 0.25;
     compare("scaled");
-    struct trufolmesca_camera camera = {{240, 250, 120, 110}, {240, 250, 120, 110}, false, -0.01, 0.002, -1e-4, 2e-4, 1e-3};
+    struct trufolmesca_camera camera = {{240, 250, 120, 110}, {240, 250, 120, 110}, TRUFOLMESCA_NO_LENS, -0.01, 0.002, -1e-4, 2e-4, 1e-3, 7};
     trufolmesca_camera_list(&camera, camera_list);
     request.camera = &camera;
     compare("camera");
-    camera.lens = true;
+    camera.lens = TRUFOLMESCA_BROWN_CONRADY;
     compare("lens");
+    camera.lens = TRUFOLMESCA_FISHEYE;
+    camera.k1 = 0.333, camera.k2 = 0.133, camera.k3 = 0.054, camera.k4 = 0.02;
+    list_fisheye(&camera);
+    compare("fisheye");
+    camera.k4 = HUGE_VAL;
+    list_fisheye(&camera);
+    compare("fisheye without end");
+    camera.lens = 3;
+    trufolmesca_camera_list(&camera, camera_list);
+    compare("lens 3");
+    camera.lens = TRUFOLMESCA_FISHEYE;
+    camera.k4 = 0.02;
     camera.rectified.fy = 0;
     trufolmesca_camera_list(&camera, camera_list);
     compare("no focal length");

@@ -129,5 +129,6 @@ def test_calls_over_a_request_give_what_the_long_calls_give(tmp_path, root, arch
     assert run.returncode == 0, run.stdout
     assert run.stdout.splitlines() == [
         "plain: 0", "plain, marking: 0", "inverted: 9", "inverted, marking: 9", "scaled: 0", "scaled, marking: 0",
-        "camera: 0", "camera, marking: 0", "lens: 0", "lens, marking: 0", "no focal length: 6", "no focal length, marking: 6",
+        "camera: 0", "camera, marking: 0", "lens: 0", "lens, marking: 0", "fisheye: 0", "fisheye, marking: 0",
+        "fisheye without end: 6", "fisheye without end, marking: 6", "lens 3: 6", "lens 3, marking: 6", "no focal length: 6", "no focal length, marking: 6",
         "no sheet: 7", "no copy: 7", "no modules: 3", "no bytes: 2"]

@@ -2,6 +2,7 @@
 from __future__ import annotations
 
 import ctypes
+import math
 import pickle
 import re
 import shutil
@@ -14,7 +15,7 @@ from pathlib import Path
 import numpy as np
 import pytest
 import trufolmesca
-from trufolmesca import Border, Camera, Intrinsics, Lens, LibraryMissing, Line, Number, Refused
+from trufolmesca import Border, Camera, Fisheye, Intrinsics, Lens, LibraryMissing, Line, Number, Refused
 from trufolmesca import library as library_module
 from trufolmesca.arguments import photograph_arguments
 
@@ -131,6 +132,25 @@ def test_a_place_behind_a_lens():
     assert refusal_of(trufolmesca.rectified_to_source, camera, np.inf, 0).number == Number.PLACE
 
 
+def test_a_place_behind_a_fisheye(example):
+    camera = Camera(PLAIN, PLAIN, Fisheye(0.1, -0.05, 0.02, -0.01))
+    x, y = 1.5, -0.75
+    r = math.hypot(x, y)
+    angle = math.atan(r)
+    bent = angle + 0.1 * angle ** 3 - 0.05 * angle ** 5 + 0.02 * angle ** 7 - 0.01 * angle ** 9
+    expected = (300 * x * bent / r + 120, 300 * y * bent / r + 120)
+    assert trufolmesca.rectified_to_source(camera, 300 * x + 120, 300 * y + 120) == pytest.approx(expected, abs=1e-9)
+    assert trufolmesca.rectified_to_source(camera, 120, 120) == (120, 120)
+    folded = Camera(PLAIN, PLAIN, Fisheye(-9, 0, 0, 0))
+    assert refusal_of(trufolmesca.rectified_to_source, folded, 420, 120).number == Number.PLACE
+    # Near the identity, since tan a is a + a ** 3 / 3 + 2 * a ** 5 / 15 + ..
+    straight = Camera(PLAIN, PLAIN, Fisheye(1 / 3, 2 / 15, 17 / 315, 62 / 2835))
+    marked = trufolmesca.refine_corners_mapped_marking(*example, straight)
+    assert marked.corners == pytest.approx(trufolmesca.refine_corners(*example).corners, abs=0.01)
+    again = trufolmesca.refine_corners_mapped_marking(marked.marks.copy, *example[1:], straight)
+    assert printed(again) == printed(marked) and (again.marks.sheet == marked.marks.sheet).all()
+
+
 # ---- refusals
 
 
@@ -145,8 +165,8 @@ def test_what_the_library_refuses_is_raised_with_its_number(example):
                               (Number.THIN, (np.full_like(picture, 9), grid, rough))):
         assert refusal_of(refine, *arguments).number == number
     assert refusal_of(refine, *example, scale=(0.0, 1.0)).number == Number.SCALE
-    lens = Camera(PLAIN, PLAIN, Lens(np.nan, 0, 0, 0, 0))
-    assert refusal_of(trufolmesca.refine_corners_mapped, *example, lens).number == Number.LENS
+    for lens in (Lens(np.nan, 0, 0, 0, 0), Lens(0, 0, 0, 0, np.inf), Fisheye(0, 0, 0, np.inf)):
+        assert refusal_of(trufolmesca.refine_corners_mapped, *example, Camera(PLAIN, PLAIN, lens)).number == Number.LENS
 
 
 def test_a_refusal_says_its_number_and_word():
@@ -228,7 +248,7 @@ def placed(camera: object = CAMERA, x: object = 1, y: object = 2) -> tuple[float
     (lambda p: placed(None), TypeError, "the camera is of class Camera, not NoneType"),
     (lambda p: placed(Camera(PLAIN, (1, 1, 0, 0))), TypeError, "rectified picture is of class Intrinsics, not tuple"),
     (lambda p: placed(Camera(None, PLAIN)), TypeError, "the camera's source is of class Intrinsics"),
-    (lambda p: placed(Camera(PLAIN, PLAIN, [0] * 5)), TypeError, "the camera's lens is of class Lens, not list"),
+    (lambda p: placed(Camera(PLAIN, PLAIN, [0] * 5)), TypeError, "the camera's lens is of class Lens or Fisheye, not list"),
     (lambda p: placed(Camera(PLAIN, Intrinsics(1, None, 1, 1))), TypeError, "the camera: numbers"),
     (lambda p: placed(x="1"), TypeError, "x: numbers are wanted"),
     (lambda p: placed(y=10 ** 400), TypeError, "y: numbers are wanted"),

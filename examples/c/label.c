@@ -1,7 +1,7 @@
 /* Refines the corners of a label on a picture, and writes what the answer rests on.
 
        label [--scale SX SY] [--inverted]
-             [--source FX FY CX CY --rectified FX FY CX CY [--lens K1 K2 P1 P2 K3]]
+             [--source FX FY CX CY --rectified FX FY CX CY [--lens K1 K2 P1 P2 K3 | --fisheye K1 K2 K3 K4]]
              PICTURE GRID X0 Y0 X1 Y1 X2 Y2 X3 Y3 SHEET COPY
 
    PICTURE is a grey PGM of one byte a pixel, GRID a text file with a row of 0 and 1 for each row of modules, 1 dark; then the rough
@@ -21,7 +21,7 @@
 #include "trufolmesca.h"
 
 #define USAGE "usage: label [--scale SX SY] [--inverted] " \
-    "[--source FX FY CX CY --rectified FX FY CX CY [--lens K1 K2 P1 P2 K3]] " \
+    "[--source FX FY CX CY --rectified FX FY CX CY [--lens K1 K2 P1 P2 K3 | --fisheye K1 K2 K3 K4]] " \
     "PICTURE GRID X0 Y0 X1 Y1 X2 Y2 X3 Y3 SHEET COPY"
 
 struct bytes {
@@ -31,8 +31,8 @@ struct bytes {
 
 /* What the words ask for. */
 struct job {
-    double scale[2], source[4], rectified[4], lens[5], corners[8];
-    bool scaled, inverted, has_source, has_rectified, has_lens;
+    double scale[2], source[4], rectified[4], lens[5], fisheye[4], corners[8];
+    bool scaled, inverted, has_source, has_rectified, has_lens, has_fisheye;
     const char *picture, *grid, *sheet, *copy;
 };
 
@@ -100,6 +100,7 @@ static char **take_options(char **words, char **end, struct job *job) {
         {"--source", 4, job->source, &job->has_source},
         {"--rectified", 4, job->rectified, &job->has_rectified},
         {"--lens", 5, job->lens, &job->has_lens},
+        {"--fisheye", 4, job->fisheye, &job->has_fisheye},
     };
     while (words < end && !strncmp(*words, "--", 2)) {
         size_t k = 0;
@@ -120,8 +121,8 @@ static struct job job_of(int argc, char **argv) {
     char **words = take_options(argv + (argc > 0), end, &job);
     if (end - words != 12) fail("label", USAGE);
     take_numbers(words + 2, 8, job.corners);
-    if (job.has_source != job.has_rectified || (job.has_lens && !job.has_source))
-        fail("label", "a camera has --source and --rectified, and then may have a --lens");
+    if (job.has_source != job.has_rectified || job.has_lens + job.has_fisheye > job.has_source)
+        fail("label", "a camera has --source and --rectified, and then may have a --lens or a --fisheye");
     job.picture = words[0];
     job.grid = words[1];
     job.sheet = words[10];
@@ -243,9 +244,14 @@ static struct trufolmesca_intrinsics intrinsics_of(const double n[4]) {
 }
 
 static struct trufolmesca_camera camera_of(const struct job *j) {
-    struct trufolmesca_camera camera = {
-        intrinsics_of(j->source), intrinsics_of(j->rectified), j->has_lens, j->lens[0], j->lens[1], j->lens[2], j->lens[3], j->lens[4]};
-    return camera;
+    const struct trufolmesca_intrinsics source = intrinsics_of(j->source), rectified = intrinsics_of(j->rectified);
+    const double *l = j->lens, *f = j->fisheye;
+    const struct trufolmesca_camera none = {.source = source, .rectified = rectified, .lens = TRUFOLMESCA_NO_LENS};
+    const struct trufolmesca_camera lens = {.source = source, .rectified = rectified, .lens = TRUFOLMESCA_BROWN_CONRADY,
+                                            .k1 = l[0], .k2 = l[1], .p1 = l[2], .p2 = l[3], .k3 = l[4]};
+    const struct trufolmesca_camera fisheye = {.source = source, .rectified = rectified, .lens = TRUFOLMESCA_FISHEYE,
+                                               .k1 = f[0], .k2 = f[1], .k3 = f[2], .k4 = f[3]};
+    return j->has_fisheye ? fisheye : j->has_lens ? lens : none;
 }
 
 int main(int argc, char **argv) {

@@ -1,7 +1,7 @@
 //! Refines the corners of a label on a picture, and writes what the answer rests on: examples/c/label.c in Rust.
 //!
 //!     label [--scale SX SY] [--inverted]
-//!           [--source FX FY CX CY --rectified FX FY CX CY [--lens K1 K2 P1 P2 K3]]
+//!           [--source FX FY CX CY --rectified FX FY CX CY [--lens K1 K2 P1 P2 K3 | --fisheye K1 K2 K3 K4]]
 //!           PICTURE GRID X0 Y0 X1 Y1 X2 Y2 X3 Y3 SHEET COPY
 //!
 //! PICTURE is a grey PGM of one byte a pixel, GRID a text file with a row of 0 and 1 for each row of
@@ -22,7 +22,7 @@ use trufolmesca::{
 };
 
 const USAGE: &str = "label: usage: label [--scale SX SY] [--inverted] \
-    [--source FX FY CX CY --rectified FX FY CX CY [--lens K1 K2 P1 P2 K3]] \
+    [--source FX FY CX CY --rectified FX FY CX CY [--lens K1 K2 P1 P2 K3 | --fisheye K1 K2 K3 K4]] \
     PICTURE GRID X0 Y0 X1 Y1 X2 Y2 X3 Y3 SHEET COPY";
 
 /// Why the program could not be run, as it is said; a path need not be UTF-8.
@@ -36,6 +36,7 @@ struct Options {
     source: Option<[f64; 4]>,
     rectified: Option<[f64; 4]>,
     lens: Option<[f64; 5]>,
+    fisheye: Option<[f64; 4]>,
 }
 
 /// What the words ask for.
@@ -86,6 +87,7 @@ fn take_options(words: &mut &[OsString]) -> Result<Options, Failed> {
             Some("--source") => options.source = Some(take_numbers(words)?),
             Some("--rectified") => options.rectified = Some(take_numbers(words)?),
             Some("--lens") => options.lens = Some(take_numbers(words)?),
+            Some("--fisheye") => options.fisheye = Some(take_numbers(words)?),
             _ => return Err(said("label: '", option, "' is not an option")),
         }
     }
@@ -98,11 +100,16 @@ fn intrinsics([fx, fy, cx, cy]: [f64; 4]) -> Intrinsics {
 
 /// The camera of the options, which is whole or not there.
 fn camera_of(options: &Options) -> Result<Option<Camera>, Failed> {
-    let lens = options.lens.map(|[k1, k2, p1, p2, k3]| Lens { k1, k2, p1, p2, k3 });
-    match (options.source.map(intrinsics), options.rectified.map(intrinsics), lens) {
-        (Some(source), Some(rectified), lens) => Ok(Some(Camera { source, rectified, lens })),
+    let lens = options.lens.map(|[k1, k2, p1, p2, k3]| Lens::BrownConrady { k1, k2, p1, p2, k3 });
+    let fisheye = options.fisheye.map(|[k1, k2, k3, k4]| Lens::Fisheye { k1, k2, k3, k4 });
+    let both = lens.is_some() && fisheye.is_some();
+    match (options.source.map(intrinsics), options.rectified.map(intrinsics), lens.or(fisheye)) {
+        (Some(source), Some(rectified), lens) if !both => Ok(Some(Camera { source, rectified, lens })),
         (None, None, None) => Ok(None),
-        _ => Err("label: a camera has --source and --rectified, and then may have a --lens".into()),
+        _ => {
+            Err("label: a camera has --source and --rectified, and then may have a --lens or a --fisheye"
+                .into())
+        }
     }
 }
 

@@ -57,6 +57,16 @@ def test_the_lens_is_the_one_of_opencv_and_its_inverse_undoes_it():
     assert np.abs(undistorted(camera, distorted(camera, places)) - places).max() < 1e-7
 
 
+def test_the_fisheye_is_the_one_of_opencv_and_its_inverse_undoes_it():
+    camera = Camera((300, 310, 399.5, 299.5), (200, 220, 390, 310), (0.02, -0.01, 0.004, -0.001))
+    places = np.append(np.random.default_rng(1).uniform((-300, -300), (1100, 900), (50, 2)), [[390, 310]], axis=0)
+    flat = (places - [390, 310]) / [200, 220]
+    matrix = np.array([[300, 0, 399.5], [0, 310, 299.5], [0, 0, 1]])
+    theirs = cv2.fisheye.distortPoints(flat[:, None], matrix, np.array(camera.lens))
+    assert np.abs(distorted(camera, places) - theirs[:, 0]).max() < 1e-9
+    assert np.abs(undistorted(camera, distorted(camera, places)) - places).max() < 1e-7
+
+
 def test_a_lens_moves_the_corners_and_bends_the_picture():
     camera, corners = Camera.of_size((400, 300)), quad((250, 180), 150, 5, 10)
     picture, known, _ = render(Label(), corners, (400, 300), camera=camera)

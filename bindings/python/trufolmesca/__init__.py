@@ -23,7 +23,7 @@ from .geometry import (Line, fit_line_tls_weighted, intersect_lines, inverse, ma
                        quad_to_quad, scaled, sqrt, square_to_quad, then)
 from .library import LibraryMissing, archive_sha256, library_path, load_library
 from .numbers import WORDS, Number, word_of
-from .photograph import (Border, Camera, EdgePoint, Intrinsics, Lens, localize_edge_point,
+from .photograph import (Border, Camera, EdgePoint, Fisheye, Intrinsics, Lens, localize_edge_point,
                          localize_edge_point_mapped, rectified_to_source, sample_bilinear)
 from .refinement import (Answer, Edge, Marked, refine_corners, refine_corners_mapped,
                          refine_corners_mapped_marking, refine_corners_marking)
@@ -32,8 +32,8 @@ from .refusal import Marks, Refused
 __version__ = "0.1.0"
 
 __all__ = [
-    "Answer", "Border", "Camera", "Edge", "EdgePoint", "Intrinsics", "LARGEST_SIDE", "Lens", "LibraryMissing", "Line",
-    "Marked", "Marks", "Number", "Refused", "WORDS", "archive_sha256", "fit_line_tls_weighted", "intersect_lines", "inverse",
+    "Answer", "Border", "Camera", "Edge", "EdgePoint", "Fisheye", "Intrinsics", "LARGEST_SIDE", "Lens", "LibraryMissing",
+    "Line", "Marked", "Marks", "Number", "Refused", "WORDS", "archive_sha256", "fit_line_tls_weighted", "intersect_lines", "inverse",
     "library_path", "load_library", "localize_edge_point", "localize_edge_point_mapped", "map_point", "quad_to_quad",
     "rectified_to_source", "refine_corners", "refine_corners_mapped", "refine_corners_mapped_marking",
     "refine_corners_marking", "sample_bilinear", "scaled", "sqrt", "square_to_quad", "then", "word_of",

@@ -83,7 +83,7 @@ def byte(what: str, value: int) -> int:
     return whole
 
 
-def instance(what: str, value: object, kind: type) -> None:
-    """Demands a value of one of the package's classes."""
-    if not isinstance(value, kind):
-        raise TypeError(f"{what} is of class {kind.__name__}, not {type(value).__name__}")
+def instance(what: str, value: object, *kinds: type) -> None:
+    """Demands a value of one of these classes of the package."""
+    if not isinstance(value, kinds):
+        raise TypeError(f"{what} is of class {' or '.join(kind.__name__ for kind in kinds)}, not {type(value).__name__}")

@@ -34,12 +34,22 @@ class Lens:
 
 
 @dataclass(frozen=True)
+class Fisheye:
+    """The distortion of a fisheye lens, as OpenCV has it; of four zeros it is the equidistant one."""
+
+    k1: float
+    k2: float
+    k3: float
+    k4: float
+
+
+@dataclass(frozen=True)
 class Camera:
     """The camera of the photograph (source), of the picture it is rectified to, and the lens."""
 
     source: Intrinsics
     rectified: Intrinsics
-    lens: Lens | None = None
+    lens: Lens | Fisheye | None = None
 
 
 class Border(IntEnum):
@@ -59,15 +69,17 @@ class EdgePoint:
     weight: float
 
 
-def camera_arguments(camera: Camera) -> tuple[NDArray[np.float64], bool]:
-    """A camera as its list of 13 numbers, and whether its lens counts."""
+def camera_arguments(camera: Camera) -> tuple[NDArray[np.float64], int]:
+    """A camera as its list of numbers, and the kind of its lens: 0 none, 1 Brown and Conrady's, 2 a fisheye."""
     instance("the camera", camera, Camera)
     instance("the camera's source", camera.source, Intrinsics)
     instance("the camera's rectified picture", camera.rectified, Intrinsics)
-    lens = Lens(0.0, 0.0, 0.0, 0.0, 0.0) if camera.lens is None else camera.lens
-    instance("the camera's lens", lens, Lens)
-    values = (*astuple(camera.source), *astuple(camera.rectified), *astuple(lens))
-    return numbers("the camera", values, 13), camera.lens is not None
+    values = (*astuple(camera.source), *astuple(camera.rectified))
+    if camera.lens is None:
+        return numbers("the camera", values, 8), 0
+    instance("the camera's lens", camera.lens, Lens, Fisheye)
+    values += astuple(camera.lens)
+    return numbers("the camera", values, len(values)), 2 if isinstance(camera.lens, Fisheye) else 1
 
 
 def rectified_to_source(camera: Camera, x: float, y: float) -> tuple[float, float]:

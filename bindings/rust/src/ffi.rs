@@ -20,7 +20,7 @@ unsafe extern "C" {
         bytes: *const u8, bytes_len: usize, width: u32, height: u32, stride: u32,
         modules: *const u8, modules_len: usize, dim: u32, sx: f64, sy: f64,
         corners: *const f64, corners_len: usize, inverted: bool,
-        camera: *const f64, camera_len: usize, lens: bool,
+        camera: *const f64, camera_len: usize, lens: u32,
         places: *mut f64, places_len: usize, counts: *mut u32, counts_len: usize,
     ) -> u32;
 
@@ -38,7 +38,7 @@ unsafe extern "C" {
         bytes: *const u8, bytes_len: usize, width: u32, height: u32, stride: u32,
         modules: *const u8, modules_len: usize, dim: u32, sx: f64, sy: f64,
         corners: *const f64, corners_len: usize, inverted: bool,
-        camera: *const f64, camera_len: usize, lens: bool,
+        camera: *const f64, camera_len: usize, lens: u32,
         places: *mut f64, places_len: usize, counts: *mut u32, counts_len: usize,
         sheet: *mut u8, sheet_len: usize, copy: *mut u8, copy_len: usize,
     ) -> u32;
@@ -51,7 +51,7 @@ unsafe extern "C" {
 
     /// Where a rectified place lies in the photograph.
     pub fn trufolmesca_rectified_to_source(
-        camera: *const f64, camera_len: usize, lens: bool, x: f64, y: f64, place: *mut f64, place_len: usize,
+        camera: *const f64, camera_len: usize, lens: u32, x: f64, y: f64, place: *mut f64, place_len: usize,
     ) -> u32;
 
     /// The map of the unit square to four corners.
@@ -102,7 +102,7 @@ unsafe extern "C" {
     pub fn trufolmesca_localize_edge_point_mapped(
         bytes: *const u8, bytes_len: usize, width: u32, height: u32, stride: u32,
         coarse_x: f64, coarse_y: f64, normal_x: f64, normal_y: f64, step: f64, inverted: bool, inward_differs: bool,
-        camera: *const f64, camera_len: usize, lens: bool,
+        camera: *const f64, camera_len: usize, lens: u32,
         point: *mut f64, point_len: usize,
     ) -> u32;
 

@@ -56,19 +56,34 @@ pub struct Intrinsics {
     pub cy: f64,
 }
 
-/// The distortion of a lens by Brown and Conrady, in OpenCV's order.
-#[derive(Clone, Copy, Debug, Default, PartialEq)]
-pub struct Lens {
-    /// Radial, of the second power.
-    pub k1: f64,
-    /// Radial, of the fourth power.
-    pub k2: f64,
-    /// Tangential.
-    pub p1: f64,
-    /// Tangential.
-    pub p2: f64,
-    /// Radial, of the sixth power.
-    pub k3: f64,
+/// How a lens bends the picture, by one of OpenCV's models and in its order.
+#[derive(Clone, Copy, Debug, PartialEq)]
+pub enum Lens {
+    /// Brown and Conrady's, of most lenses.
+    BrownConrady {
+        /// Radial, of the second power.
+        k1: f64,
+        /// Radial, of the fourth power.
+        k2: f64,
+        /// Tangential.
+        p1: f64,
+        /// Tangential.
+        p2: f64,
+        /// Radial, of the sixth power.
+        k3: f64,
+    },
+    /// That of fisheye lenses, by powers of the angle with the axis; of four zeros it is the
+    /// equidistant one.
+    Fisheye {
+        /// Of the third power.
+        k1: f64,
+        /// Of the fifth power.
+        k2: f64,
+        /// Of the seventh power.
+        k3: f64,
+        /// Of the ninth power.
+        k4: f64,
+    },
 }
 
 /// A camera: that of the photograph, that of the picture it is rectified to, and the lens.
@@ -147,11 +162,17 @@ pub fn sample_bilinear(photograph: &Photograph, place: Place, border: Border) ->
 /// use trufolmesca::{Camera, Intrinsics, Lens, Refusal, rectified_to_source};
 ///
 /// let source = Intrinsics { fx: 100.0, fy: 100.0, cx: 50.0, cy: 40.0 };
-/// let lens = Lens { k1: 0.1, ..Lens::default() };
+/// let lens = Lens::BrownConrady { k1: 0.1, k2: 0.0, p1: 0.0, p2: 0.0, k3: 0.0 };
 /// let camera = Camera { source, rectified: source, lens: Some(lens) };
 /// assert_eq!(rectified_to_source(&camera, [50.0, 40.0]), Ok([50.0, 40.0]));
 /// assert_eq!(rectified_to_source(&camera, [150.0, 40.0]), Ok([160.0, 40.0]));
 /// assert_eq!(rectified_to_source(&camera, [f64::NAN, 40.0]), Err(Refusal::PLACE));
+///
+/// // An eighth of a full turn from the axis is that far from the middle, in focal lengths.
+/// let equidistant = Lens::Fisheye { k1: 0.0, k2: 0.0, k3: 0.0, k4: 0.0 };
+/// let [x, _] = rectified_to_source(&Camera { lens: Some(equidistant), ..camera }, [150.0, 40.0])?;
+/// assert!((x - 50.0 - 100.0 * std::f64::consts::FRAC_PI_4).abs() < 1e-9);
+/// # Ok::<(), Refusal>(())
 /// ```
 #[doc(alias = "trufolmesca_rectified_to_source")]
 pub fn rectified_to_source(camera: &Camera, place: Place) -> Result<Place, Refusal> {

@@ -9,7 +9,9 @@
 // that it overlaps no other list; and a Rust bool is 0 or 1.
 #![allow(unsafe_code)]
 
-use crate::{Aim, Answer, Border, Camera, Edge, Line, Map, Photograph, Place, Quad, Refusal, Request, ffi};
+use crate::{
+    Aim, Answer, Border, Camera, Edge, Lens, Line, Map, Photograph, Place, Quad, Refusal, Request, ffi,
+};
 
 /// What a call returned and what it wrote.
 #[derive(Clone, Copy, Debug, PartialEq)]
@@ -93,21 +95,22 @@ fn answer_of(places: &[f64; 8], counts: &[u32; 20]) -> Answer {
     }
 }
 
-/// A camera as C takes it: its list, and whether the last five of it, the lens, count.
+/// A camera as C takes it: its list, and the kind of its lens.
 struct CameraList {
     numbers: [f64; 13],
-    lens: bool,
+    lens: u32,
 }
 
 impl CameraList {
-    /// The list of a camera.
+    /// The list of a camera; what the lens has no coefficient for is 0, and is not read.
     fn of(camera: &Camera) -> Self {
         let Camera { source: s, rectified: r, lens } = camera;
-        let l = lens.unwrap_or_default();
-        Self {
-            numbers: [s.fx, s.fy, s.cx, s.cy, r.fx, r.fy, r.cx, r.cy, l.k1, l.k2, l.p1, l.p2, l.k3],
-            lens: lens.is_some(),
-        }
+        let (lens, [a, b, c, d, e]) = match *lens {
+            None => (0, [0.0; 5]),
+            Some(Lens::BrownConrady { k1, k2, p1, p2, k3 }) => (1, [k1, k2, p1, p2, k3]),
+            Some(Lens::Fisheye { k1, k2, k3, k4 }) => (2, [k1, k2, k3, k4, 0.0]),
+        };
+        Self { numbers: [s.fx, s.fy, s.cx, s.cy, r.fx, r.fy, r.cx, r.cy, a, b, c, d, e], lens }
     }
 }
 

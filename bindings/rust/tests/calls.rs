@@ -55,8 +55,10 @@ fn a_label_light_on_dark_is_inverted() {
 #[test]
 fn through_a_camera_corners_are_rectified_pixels() {
     let bytes = picture();
-    let lens = Lens { k1: 0.01, k2: -0.002, p1: 0.001, p2: 0.001, k3: 0.0005 };
-    for lens in [None, Some(lens)] {
+    let brown_conrady = Lens::BrownConrady { k1: 0.01, k2: -0.002, p1: 0.001, p2: 0.001, k3: 0.0005 };
+    // Near the identity, since tan θ is θ + θ³/3 + 2θ⁵/15 + ..
+    let fisheye = Lens::Fisheye { k1: 0.333, k2: 0.133, k3: 0.054, k4: 0.02 };
+    for lens in [None, Some(brown_conrady), Some(fisheye)] {
         let camera = Camera { source: PINHOLE, rectified: HALF, lens };
         let mut request = request(&bytes).with_camera(camera);
         request.corners = request.corners.map(|place| place.map(|at| at / 2.0));

@@ -38,7 +38,8 @@ fn threads_that_share_a_photograph_come_to_the_same() {
 fn a_thread_of_a_small_stack_is_enough() {
     let bytes = drawn::picture();
     let plain = Intrinsics { fx: 100.0, fy: 100.0, cx: 52.0, cy: 52.0 };
-    let camera = Camera { source: plain, rectified: plain, lens: Some(Lens::default()) };
+    let lens = Lens::Fisheye { k1: 0.333, k2: 0.133, k3: 0.054, k4: 0.02 };
+    let camera = Camera { source: plain, rectified: plain, lens: Some(lens) };
     let request = drawn::request(&bytes).with_camera(camera);
     thread::scope(|threads| {
         let small = thread::Builder::new().stack_size(32 * 1024);

@@ -46,7 +46,8 @@ struct job {
     uint32_t width, height, stride, dim, border;
     uint8_t constant;
     double x[5];        /* the call's floats, in its order */
-    bool flag[2], lens; /* its bools, in its order, but for the camera's */
+    bool flag[2];       /* its bools, in its order */
+    uint32_t lens;      /* the kind of the camera's lens */
     size_t len[LISTS];
     const void *contents[LISTS]; /* of the lists that are read: a scene's, or those below */
     uint8_t bytes[MOST_BYTES], modules[MOST_MODULES];

@@ -70,15 +70,17 @@ static void spoil_photograph(struct job *j, struct random *r) {
 
 /* ---- cameras */
 
-/* A camera whose rectified picture is the photograph moved and scaled; its lens moves less than a pixel. */
+/* A camera whose rectified picture is the photograph moved and scaled; its lens moves less than a pixel, but for a fisheye's rim. */
 static void lend_camera(struct job *j, struct random *r, double side) {
     double scale = chance(r, 50) ? 1.0 : between(r, 0.5, 2.0), shift = chance(r, 50) ? 0.0 : between(r, -20.0, 20.0);
     double f = side * between(r, 1.0, 2.0), c = side / 2;
     const double camera[13] = {f, f, c, c, f * scale, f * scale, c * scale + shift, c * scale - shift, 0, 0, 0, 0, 0};
     memcpy(j->floats[2], camera, sizeof camera);
-    for (int i = 8; i < 13; ++i) j->floats[2][i] = between(r, -1e-3, 1e-3);
+    j->lens = below(r, 3);
+    /* Those of a fisheye that bends nothing, since tan a is a + a * a * a / 3 + .. */
+    const double straight[5] = {1.0 / 3, 2.0 / 15, 17.0 / 315, 62.0 / 2835, 0};
+    for (int i = 0; i < 5; ++i) j->floats[2][8 + i] = between(r, -1e-3, 1e-3) + (j->lens == 2 ? straight[i] : 0);
     lend_floats(j, THIRD, 13);
-    j->lens = chance(r, 60);
 }
 
 /* A place of the photograph in the rectified picture, but for the lens. */
@@ -89,8 +91,10 @@ static void rectify(const struct job *j, double *x, double *y) {
 }
 
 static void spoil_camera(struct job *j, struct random *r) {
-    if (chance(r, 60))
+    if (chance(r, 50))
         spoil_float(j, THIRD, 13, r);
+    else if (chance(r, 20))
+        j->lens = any_size(r);
     else
         j->len[THIRD] = any_length(r, chance(r, 50) ? 8 : 13, MOST_FLOATS);
 }

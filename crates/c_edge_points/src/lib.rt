@@ -105,7 +105,7 @@ pub fn localize_edge_point_mapped(
     inverted: bool,
     inward_differs: bool,
     camera: &[f64],
-    lens: bool,
+    lens: u32,
     point: &mut [f64],
 ) -> u32
     ensures value { result ≡ number_of (localize_edge_point bytes.now stride (lent_scene width height (view_of camera.now lens))

@@ -52,7 +52,7 @@ pub fn refine_corners_mapped_marking(
     corners: &[f64],
     inverted: bool,
     camera: &[f64],
-    lens: bool,
+    lens: u32,
     places: &mut [f64],
     counts: &mut [u32],
     sheet: &mut [u8],

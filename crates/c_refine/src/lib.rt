@@ -48,7 +48,7 @@ pub fn refine_corners_mapped(
     corners: &[f64],
     inverted: bool,
     camera: &[f64],
-    lens: bool,
+    lens: u32,
     places: &mut [f64],
     counts: &mut [u32],
 ) -> u32

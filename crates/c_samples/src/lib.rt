@@ -43,7 +43,7 @@ pub fn sample_bilinear(
 // ---- camera.rs
 
 // Where a rectified place lies in the photograph, or 6 or 20.
-pub fn rectified_to_source(camera: &[f64], lens: bool, x: f64, y: f64, place: &mut [f64]) -> u32
+pub fn rectified_to_source(camera: &[f64], lens: u32, x: f64, y: f64, place: &mut [f64]) -> u32
     ensures value { result ≡ number_of (camera_answer (camera_of camera.now lens) (source x y)) }
     ensures place_after { place.new ≡ with_place
         (result_unwrap_or (camera_answer (camera_of camera.now lens) (source x y)) zero_place) place.old }

@@ -2,7 +2,7 @@
 #![tactic(auto)]
 
 ghost use Rattle.std.specs.Prelude.{◌≡◌, ◌≤◌};
-ghost use Rattle.c_views.specs.Views.{intrinsics_at, lens_of, camera_of, view_of, border_of};
+ghost use Rattle.c_views.specs.Views.{intrinsics_at, unknown_lens, lens_of, camera_of, view_of, border_of};
 
 use c_lists::float_at;
 use camera::{CameraCalibration, CameraIntrinsics, LensDistortion};
@@ -23,25 +23,45 @@ fn intrinsics_at(s: &[f64], i: usize) -> CameraIntrinsics
     }
 }
 
-// The lens at the end of a camera's list, or none where the call says so.
-fn lens_of(s: &[f64], lens: bool) -> LensDistortion
+// A lens whose coefficients are no numbers, so that a camera with it is refused by 6.
+#[tactic(auto, using(crate::proofs::UnknownKind::no_number))]
+fn unknown_lens() -> LensDistortion
+    ensures { result ≡ unknown_lens }
+{
+    LensDistortion::Fisheye {
+        k1: f64::NAN,
+        k2: f64::NAN,
+        k3: f64::NAN,
+        k4: f64::NAN,
+    }
+}
+
+// The lens of a kind, whose coefficients stand behind the intrinsics in a camera's list: 0 none, 1
+// Brown-Conrady, 2 fisheye, any other one that is refused.
+fn lens_of(s: &[f64], lens: u32) -> LensDistortion
     ensures { result ≡ lens_of s.now lens }
 {
-    if lens {
-        LensDistortion::BrownConrady {
+    match lens {
+        0 => LensDistortion::None,
+        1 => LensDistortion::BrownConrady {
             k1: float_at(s, 8),
             k2: float_at(s, 9),
             p1: float_at(s, 10),
             p2: float_at(s, 11),
             k3: float_at(s, 12),
-        }
-    } else {
-        LensDistortion::None
+        },
+        2 => LensDistortion::Fisheye {
+            k1: float_at(s, 8),
+            k2: float_at(s, 9),
+            k3: float_at(s, 10),
+            k4: float_at(s, 11),
+        },
+        _ => unknown_lens(),
     }
 }
 
-// A camera, from its list and whether it has a lens, as the C interface lends them.
-pub fn camera_of(s: &[f64], lens: bool) -> CameraCalibration
+// A camera, from its list and the kind of its lens, as the C interface lends them.
+pub fn camera_of(s: &[f64], lens: u32) -> CameraCalibration
     ensures { result ≡ camera_of s.now lens }
 {
     CameraCalibration {
@@ -52,7 +72,7 @@ pub fn camera_of(s: &[f64], lens: bool) -> CameraCalibration
 }
 
 // The photograph seen through the camera of a list.
-pub fn view_of(s: &[f64], lens: bool) -> View
+pub fn view_of(s: &[f64], lens: u32) -> View
     ensures { result ≡ view_of s.now lens }
 {
     Some(camera_of(s, lens))

@@ -1,12 +1,16 @@
--- camera.rs: `CameraIntrinsics::valid` (22 to 28), which with the lens says what cameras are refused,
--- and `rectified_to_source` (138 to 182), for no lens and for Brown-Conrady. Definitions only, to be
--- believed.
-use Rattle.std.specs.Prelude.{Bool, true, false, not, ◌&&◌, ◌||◌, Float, Option, Some, None, Result, Err, ok_or}
+-- camera.rs: `CameraIntrinsics::valid` (22 to 28), which with the lens says what cameras are
+-- refused, and `rectified_to_source` (138 to 182), for no lens, Brown-Conrady and fisheye. For
+-- Rust's `hypot` stands the root of the sum of the squares, and for its `atan` the arctangent of
+-- `arctan`. Definitions only, to be believed.
+use Rattle.std.specs.Prelude.{Bool, true, false, not, ◌&&◌, ◌||◌, Float, Option, Some, None, option_map, option_and_then, Result, Err, ok_or}
+use Rattle.std.specs.Float.{binary64}
 use Rattle.prelude.specs.Prelude.{when◌then◌else◌}
 use Rattle.number.specs.declared.Refusal.{Refusal}
 use Rattle.number.specs.declared.Refusal.TheVariants as refusal
 use Rattle.ieee.specs.Parts.{is_finite}
-use Rattle.ieee.specs.Floats.{◌⊕◌, ◌⊖◌, ◌⊗◌, ◌⊘◌, ◌≐◌, ◌≺◌, f0, f1, f2}
+use Rattle.ieee.specs.Floats.{◌⊕◌, ◌⊖◌, ◌⊗◌, ◌⊘◌, ◌≐◌, ◌≺◌, ◌≼◌, f0, f1, f2}
+use Rattle.ieee_root.specs.Root.{root}
+use Rattle.arctan.specs.Arctan.{arctangent}
 use Rattle.pixel.specs.Pixels.{source}
 use Rattle.pixel.specs.declared.SourcePixel.{SourcePixel}
 use Rattle.camera.specs.declared.CameraIntrinsics.{CameraIntrinsics}
@@ -23,6 +27,7 @@ valid_intrinsics i = is_finite i.fx && is_finite i.fy && is_finite i.cx && is_fi
 abbrev pub valid_lens : LensDistortion → Bool
 valid_lens lens.None = true
 valid_lens (lens.BrownConrady k1 k2 p1 p2 k3) = is_finite k1 && is_finite k2 && is_finite p1 && is_finite p2 && is_finite k3
+valid_lens (lens.Fisheye k1 k2 k3 k4) = is_finite k1 && is_finite k2 && is_finite k3 && is_finite k4
 
 abbrev pub valid_camera : CameraCalibration → Bool
 valid_camera c = valid_intrinsics c.intrinsics && valid_intrinsics c.rectified && valid_lens c.distortion
@@ -36,30 +41,50 @@ same_intrinsics a b = (a.fx ≐ b.fx) && (a.fy ≐ b.fy) && (a.cx ≐ b.cx) && (
 abbrev pub is_none : LensDistortion → Bool
 is_none lens.None = true
 is_none (lens.BrownConrady k1 k2 p1 p2 k3) = false
+is_none (lens.Fisheye k1 k2 k3 k4) = false
 
 abbrev pub is_identity : CameraCalibration → Bool
 is_identity c = is_none c.distortion && same_intrinsics c.intrinsics c.rectified
 
 -- ---- `rectified_to_source`
 
+abbrev pub normalized : Float → Float → Normalized
+normalized x y = record { 0 = x; 1 = y }
+
+-- the fisheye: the angle θ with the axis decides, and a place on the axis stays there
+unfoldable pub fisheye : Float → Float → Float → Float → Float → Float → Option Normalized
+fisheye k1 k2 k3 k4 x y =
+    let r = root binary64 (x ⊗ x ⊕ y ⊗ y) in
+    when not (is_finite r) then None else
+    when r ≐ f0 then Some (normalized f0 f0) else
+    let θ = arctangent r in
+    let t2 = θ ⊗ θ in
+    let td = θ ⊗ (f1 ⊕ t2 ⊗ (k1 ⊕ t2 ⊗ (k2 ⊕ t2 ⊗ (k3 ⊕ t2 ⊗ k4)))) in
+    when td ≼ f0 then None else
+    let scale = td ⊘ r in
+    Some (normalized (x ⊗ scale) (y ⊗ scale))
+
 -- the lens, on coordinates of the picture plane
-abbrev pub distorted : LensDistortion → Float → Float → Normalized
-distorted lens.None x y = record { 0 = x; 1 = y }
+abbrev pub distorted : LensDistortion → Float → Float → Option Normalized
+distorted lens.None x y = Some (normalized x y)
 distorted (lens.BrownConrady k1 k2 p1 p2 k3) x y =
     let r2 = x ⊗ x ⊕ y ⊗ y in
     let radial = f1 ⊕ r2 ⊗ (k1 ⊕ r2 ⊗ (k2 ⊕ r2 ⊗ k3)) in
-    record {
-      0 = x ⊗ radial ⊕ f2 ⊗ p1 ⊗ x ⊗ y ⊕ p2 ⊗ (r2 ⊕ f2 ⊗ x ⊗ x);
-      1 = y ⊗ radial ⊕ p1 ⊗ (r2 ⊕ f2 ⊗ y ⊗ y) ⊕ f2 ⊗ p2 ⊗ x ⊗ y;
-    }
+    Some
+    (normalized
+    (x ⊗ radial ⊕ f2 ⊗ p1 ⊗ x ⊗ y ⊕ p2 ⊗ (r2 ⊕ f2 ⊗ x ⊗ x))
+    (y ⊗ radial ⊕ p1 ⊗ (r2 ⊕ f2 ⊗ y ⊗ y) ⊕ f2 ⊗ p2 ⊗ x ⊗ y))
+distorted (lens.Fisheye k1 k2 k3 k4) x y = fisheye k1 k2 k3 k4 x y
+
+-- a place of the picture plane in pixels
+abbrev pub in_pixels : CameraIntrinsics → Normalized → SourcePixel
+in_pixels i d = source (i.fx ⊗ d.0 ⊕ i.cx) (i.fy ⊗ d.1 ⊕ i.cy)
 
 -- through the rectified picture's intrinsics, the lens, and the source picture's intrinsics
-abbrev pub projected : CameraCalibration → SourcePixel → SourcePixel
+abbrev pub projected : CameraCalibration → SourcePixel → Option SourcePixel
 projected c p =
     let r = c.rectified in
-    let s = c.intrinsics in
-    let d = distorted c.distortion ((p.0 ⊖ r.cx) ⊘ r.fx) ((p.1 ⊖ r.cy) ⊘ r.fy) in
-    source (s.fx ⊗ d.0 ⊕ s.cx) (s.fy ⊗ d.1 ⊕ s.cy)
+    option_map (in_pixels c.intrinsics) (distorted c.distortion ((p.0 ⊖ r.cx) ⊘ r.fx) ((p.1 ⊖ r.cy) ⊘ r.fy))
 
 abbrev pub if_finite : SourcePixel → Option SourcePixel
 if_finite p = when is_finite p.0 && is_finite p.1 then Some p else None
@@ -68,7 +93,7 @@ abbrev pub rectified_to_source : CameraCalibration → SourcePixel → Option So
 rectified_to_source c p =
     when not (is_finite p.0) || not (is_finite p.1) then None else
     when is_identity c then Some p else
-    if_finite (projected c p)
+    option_and_then if_finite (projected c p)
 
 -- the place, or why there is none
 abbrev pub camera_answer : CameraCalibration → SourcePixel → Result SourcePixel Refusal

@@ -1,8 +1,8 @@
-// camera.rs: from a rectified place to the source picture, for no lens and for Brown-Conrady.
+// camera.rs: from a rectified place to the source picture, for no lens, Brown-Conrady and fisheye.
 #![tactic(auto)]
 
 ghost use Rattle.std.specs.Prelude.{◌≡◌};
-ghost use Rattle.camera.specs.Camera.{valid_intrinsics, valid_lens, valid_camera, is_none, is_identity, distorted, projected, if_finite, rectified_to_source, camera_answer};
+ghost use Rattle.camera.specs.Camera.{valid_intrinsics, valid_lens, valid_camera, is_none, is_identity, fisheye as fisheye_of, distorted, projected, if_finite, rectified_to_source, camera_answer};
 
 use number::Refusal;
 use pixel::SourcePixel;
@@ -16,8 +16,7 @@ pub struct CameraIntrinsics {
     pub cy: f64,
 }
 
-// The lens, on coordinates of the picture plane before the intrinsics. Kinds of lens, of which the Rust has a third, and
-// so no `Option` of one.
+// The lens, on coordinates of the picture plane before the intrinsics. Kinds of lens, and so no `Option` of one.
 #[derive(Clone, Copy)]
 pub enum LensDistortion {
     None,
@@ -27,6 +26,13 @@ pub enum LensDistortion {
         p1: f64,
         p2: f64,
         k3: f64,
+    },
+    // Four zeros still are a lens, the equidistant one.
+    Fisheye {
+        k1: f64,
+        k2: f64,
+        k3: f64,
+        k4: f64,
     },
 }
 
@@ -56,6 +62,31 @@ impl CameraIntrinsics {
     }
 }
 
+// Where the fisheye sends a place: nowhere if its distance from the axis is not finite, or if the
+// polynomial of its angle is not above 0. It stays a call, so that the sampler is no slower for the
+// other lenses.
+#[inline(never)]
+#[tactic(auto, unfolding(crate::specs::Camera::fisheye))]
+fn fisheye(k1: f64, k2: f64, k3: f64, k4: f64, x: f64, y: f64) -> Option<Normalized>
+    ensures { result ≡ fisheye_of k1 k2 k3 k4 x y }
+{
+    let r = ieee_root::sqrt(x * x + y * y);
+    if !ieee::is_finite(r) {
+        return None;
+    }
+    if r == 0.0 {
+        return Some(Normalized(0.0, 0.0));
+    }
+    let theta = arctan::arctan(r);
+    let t2 = theta * theta;
+    let td = theta * (1.0 + t2 * (k1 + t2 * (k2 + t2 * (k3 + t2 * k4))));
+    if td <= 0.0 {
+        return None;
+    }
+    let scale = td / r;
+    Some(Normalized(x * scale, y * scale))
+}
+
 impl LensDistortion {
     // Finite coefficients.
     fn valid(self) -> bool
@@ -70,30 +101,34 @@ impl LensDistortion {
                     && ieee::is_finite(p2)
                     && ieee::is_finite(k3)
             }
+            LensDistortion::Fisheye { k1, k2, k3, k4 } => {
+                ieee::both_finite(k1, k2) && ieee::both_finite(k3, k4)
+            }
         }
     }
 
-    // Whether there is no lens: Brown-Conrady with five zeros is one.
+    // Whether there is no lens: Brown-Conrady with five zeros is one, and so is every fisheye.
     fn is_none(self) -> bool
         ensures { result ≡ is_none self }
     {
         matches!(self, LensDistortion::None)
     }
 
-    // Where the lens sends a place on the picture plane.
-    fn distort(self, x: f64, y: f64) -> Normalized
+    // Where the lens sends a place on the picture plane, if anywhere.
+    fn distort(self, x: f64, y: f64) -> Option<Normalized>
         ensures { result ≡ distorted self x y }
     {
         match self {
-            LensDistortion::None => Normalized(x, y),
+            LensDistortion::None => Some(Normalized(x, y)),
             LensDistortion::BrownConrady { k1, k2, p1, p2, k3 } => {
                 let r2 = x * x + y * y;
                 let radial = 1.0 + r2 * (k1 + r2 * (k2 + r2 * k3));
-                Normalized(
+                Some(Normalized(
                     x * radial + 2.0 * p1 * x * y + p2 * (r2 + 2.0 * x * x),
                     y * radial + p1 * (r2 + 2.0 * y * y) + 2.0 * p2 * x * y,
-                )
+                ))
             }
+            LensDistortion::Fisheye { k1, k2, k3, k4 } => fisheye(k1, k2, k3, k4, x, y),
         }
     }
 }
@@ -125,16 +160,16 @@ impl CameraCalibration {
     }
 
     // Through the rectified picture's intrinsics, the lens, and the source picture's intrinsics.
-    pub fn project(self, p: SourcePixel) -> SourcePixel
+    pub fn project(self, p: SourcePixel) -> Option<SourcePixel>
         ensures { result ≡ projected self p }
     {
         let x = (p.0 - self.rectified.cx) / self.rectified.fx;
         let y = (p.1 - self.rectified.cy) / self.rectified.fy;
-        let d = self.distortion.distort(x, y);
-        SourcePixel(
+        let d = self.distortion.distort(x, y)?;
+        Some(SourcePixel(
             self.intrinsics.fx * d.0 + self.intrinsics.cx,
             self.intrinsics.fy * d.1 + self.intrinsics.cy,
-        )
+        ))
     }
 
     // Where a rectified place lies in the source picture. Whoever samples through the camera has
@@ -148,7 +183,7 @@ impl CameraCalibration {
         if self.is_identity() {
             return Some(p);
         }
-        if_finite(self.project(p))
+        if_finite(self.project(p)?)
     }
 
     // Where a rectified place lies in the source picture: `Lens` for a camera that is not valid, then

@@ -80,7 +80,7 @@ pub extern "C" fn trufolmesca_refine_corners_mapped(
     corners: &[f64],
     inverted: bool,
     camera: &[f64],
-    lens: bool,
+    lens: u32,
     places: &mut [f64],
     counts: &mut [u32],
 ) -> u32
@@ -108,7 +108,7 @@ pub extern "C" fn trufolmesca_refine_corners_mapped_marking(
     corners: &[f64],
     inverted: bool,
     camera: &[f64],
-    lens: bool,
+    lens: u32,
     places: &mut [f64],
     counts: &mut [u32],
     sheet: &mut [u8],

@@ -47,7 +47,7 @@ pub extern "C" fn trufolmesca_sample_bilinear(
 #[unsafe(no_mangle)]
 pub extern "C" fn trufolmesca_rectified_to_source(
     camera: &[f64],
-    lens: bool,
+    lens: u32,
     x: f64,
     y: f64,
     place: &mut [f64],
@@ -195,7 +195,7 @@ pub extern "C" fn trufolmesca_localize_edge_point_mapped(
     inverted: bool,
     inward_differs: bool,
     camera: &[f64],
-    lens: bool,
+    lens: u32,
     point: &mut [f64],
 ) -> u32
     ensures value { result ≡ number_of (localize_edge_point bytes.now stride (lent_scene width height (view_of camera.now lens))

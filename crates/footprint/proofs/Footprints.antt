@@ -13,7 +13,7 @@ use Rattle.ieee.specs.Floats.{◌≺◌, ◌≼◌, f0, float}
 use Rattle.ieee.proofs.Order.{not_more, else_more, amid_finite}
 use Rattle.ieee_whole.proofs.WholeGuess.{float-finite}
 use Rattle.pixel.specs.declared.SourcePixel.{SourcePixel}
-use Rattle.std.specs.Prelude.{Some, None}
+use Rattle.std.specs.Prelude.{Option, Some, None, option_and_then}
 use Rattle.camera.specs.Camera.{if_finite}
 use Rattle.footprint.specs.declared.BorderMode.{BorderMode}
 use Rattle.footprint.specs.declared.BorderMode.TheVariants.{Reject}
@@ -96,8 +96,9 @@ module _ (w h : ℕ) (x y : Float) where
 -- ---- the place through a camera
 
 -- a place that is not finite has no footprint
-pub if_finite_footprint : (w h : ℕ) (q : SourcePixel) → point_footprint w h (Some q) ≡ point_footprint w h (if_finite q)
-if_finite_footprint w h q = go (is_finite q.0) refl (is_finite q.1) refl
+pub if_finite_footprint : (w h : ℕ) (place : Option SourcePixel) → point_footprint w h place ≡ point_footprint w h (option_and_then if_finite place)
+if_finite_footprint w h None = refl
+if_finite_footprint w h (Some q) = go (is_finite q.0) refl (is_finite q.1) refl
   where
     go : (a : Bool) → is_finite q.0 ≡ a → (b : Bool) → is_finite q.1 ≡ b → footprint w h Reject q.0 q.1 ≡ point_footprint w h (when a && b then Some q else None)
     go true ea true eb = refl

@@ -188,7 +188,7 @@ fn through_camera(camera: CameraCalibration, p: SourcePixel) -> Option<SourcePix
     if camera.is_identity() {
         return Some(p);
     }
-    Some(camera.project(p))
+    camera.project(p)
 }
 
 // A place in the photograph: through the camera, where there is one.

@@ -20,9 +20,12 @@ working_at s i = record { 0 = float_at s i; 1 = float_at s (i + 8) }
 abbrev pub intrinsics_at : List ℕ → ℕ → CameraIntrinsics
 intrinsics_at s i = record { fx = float_at s i; fy = float_at s (i + 8); cx = float_at s (i + 16); cy = float_at s (i + 24) }
 
+-- behind the lens byte k1, k2, p1, p2, k3, or k1, k2, k3, k4
 abbrev pub lens_of : List ℕ → LensDistortion
 lens_of s =
-    when eqb (byte_at s 0) 1 then lens.BrownConrady (float_at s 1) (float_at s 9) (float_at s 17) (float_at s 25) (float_at s 33) else lens.None
+    when eqb (byte_at s 0) 1 then lens.BrownConrady (float_at s 1) (float_at s 9) (float_at s 17) (float_at s 25) (float_at s 33) else
+    when eqb (byte_at s 0) 2 then lens.Fisheye (float_at s 1) (float_at s 9) (float_at s 17) (float_at s 25) else
+    lens.None
 
 abbrev pub view_of : List ℕ → View
 view_of card =

@@ -64,20 +64,25 @@ fn intrinsics_at(s: &[u8], i: usize) -> CameraIntrinsics
     }
 }
 
-// The lens of the contents of field 8.
+// The lens of the contents of field 8, by its first byte.
 fn lens_of(s: &[u8]) -> LensDistortion
     ensures { result ≡ lens_of s.now }
 {
-    if byte_at(s, 0) == 1 {
-        LensDistortion::BrownConrady {
+    match byte_at(s, 0) {
+        1 => LensDistortion::BrownConrady {
             k1: float_at(s, 1),
             k2: float_at(s, 9),
             p1: float_at(s, 17),
             p2: float_at(s, 25),
             k3: float_at(s, 33),
-        }
-    } else {
-        LensDistortion::None
+        },
+        2 => LensDistortion::Fisheye {
+            k1: float_at(s, 1),
+            k2: float_at(s, 9),
+            k3: float_at(s, 17),
+            k4: float_at(s, 25),
+        },
+        _ => LensDistortion::None,
     }
 }
 

@@ -31,9 +31,12 @@ contents card t = take (size_at card (start_of card t)) (drop (start_of card t +
 
 -- ---- which cards are well formed
 
--- byte 0 alone, or 1 with five floats
+-- byte 0 alone, 1 with five floats, or 2 with four
 abbrev pub is_lens : List ℕ → Bool
-is_lens s = (eqb (length s) 1 && eqb (byte_at s 0) 0) || (eqb (length s) 41 && eqb (byte_at s 0) 1)
+is_lens s =
+    (eqb (length s) 1 && eqb (byte_at s 0) 0)
+    || (eqb (length s) 41 && eqb (byte_at s 0) 1)
+    || (eqb (length s) 33 && eqb (byte_at s 0) 2)
 
 -- contents that suit their tag
 abbrev pub suits : ℕ → List ℕ → Bool

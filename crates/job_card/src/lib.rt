@@ -11,11 +11,11 @@ use number::Refusal;
 // The most bytes that a job card has.
 const LONGEST: usize = 65535;
 
-// Whether contents are a lens: byte 0 alone, or 1 with five floats.
+// Whether contents are a lens: byte 0 alone, 1 with five floats, or 2 with four.
 fn is_lens(s: &[u8]) -> bool
     ensures { result ≡ is_lens s.now }
 {
-    s.len() == 1 && s[0] == 0 || s.len() == 41 && s[0] == 1
+    s.len() == 1 && s[0] == 0 || s.len() == 41 && s[0] == 1 || s.len() == 33 && s[0] == 2
 }
 
 // Whether contents suit a tag from 1 to 8. A tag is a number here as on the card, where `fields_end` counts it; callers

@@ -1,7 +1,7 @@
 //! The port's time over the Rust's, or over that of the port before, on the same photographs, in
 //! one process.
 use crate::families;
-use crate::job::Job;
+use crate::job::{Job, Lens};
 use crate::turns::{median, median_of, Side, Turns};
 use std::time::Instant;
 
@@ -12,7 +12,7 @@ pub struct Options<'a> {
     pub before: bool,
     /// one side alone, for a profiler
     pub side: Option<&'a str>,
-    /// only pictures of this width, labels of this dimension, with or without a lens, marking or not
+    /// only pictures of this width, labels of this dimension, without a lens or with one or the other, marking or not
     pub width: Option<&'a str>,
     pub dim: Option<&'a str>,
     pub lens: Option<&'a str>,
@@ -32,8 +32,21 @@ struct Kind {
     width: usize,
     height: usize,
     dim: usize,
-    lens: bool,
+    lens: Lens,
 }
+
+/// What `--lens` takes: Brown-Conrady is yes.
+fn lens_word(lens: Lens) -> &'static str {
+    match lens {
+        Lens::None => "no",
+        Lens::BrownConrady(_) => "yes",
+        Lens::Fisheye(_) => "fisheye",
+    }
+}
+
+/// The lenses that are timed.
+const LENSES: [Lens; 3] =
+    [Lens::None, Lens::BrownConrady([-0.08, 0.02, 0.001, -0.0008, 0.003]), Lens::Fisheye([-0.02, 0.005, -0.001, 0.0003])];
 
 impl Kind {
     /// Drawn side by side, since a large one through a lens takes seconds.
@@ -50,7 +63,7 @@ fn kinds() -> Vec<Kind> {
     let mut all = Vec::new();
     for (width, height) in [(640, 480), (2000, 1500), (6000, 4000)] {
         for dim in [21, 33, 57, 177] {
-            all.extend([false, true].map(|lens| Kind { width, height, dim, lens }));
+            all.extend(LENSES.map(|lens| Kind { width, height, dim, lens }));
         }
     }
     all
@@ -70,7 +83,7 @@ impl Options<'_> {
     fn rows(&self, mut row: impl FnMut(&Kind, bool, &mut Turns)) {
         let wanted = |only: Option<&str>, this: &str| only.is_none_or(|o| o == this);
         for k in kinds() {
-            if !wanted(self.width, &k.width.to_string()) || !wanted(self.dim, &k.dim.to_string()) || !wanted(self.lens, yes_no(k.lens)) {
+            if !wanted(self.width, &k.width.to_string()) || !wanted(self.dim, &k.dim.to_string()) || !wanted(self.lens, lens_word(k.lens)) {
                 continue;
             }
             let jobs = k.photographs(self.photographs);
@@ -111,14 +124,14 @@ fn measured(turns: &mut Turns, against: Side, marking: bool, repeats: u64) -> Me
 
 fn table(o: &Options) {
     let other = format!("{} µs", o.against().name());
-    println!("picture      dim lens marking {other:>9}   port µs  ratio  least  samples  roots");
+    println!("picture      dim lens    marking {other:>9}   port µs  ratio  least  samples  roots");
     let mut worst = [0.0_f64; 2];
     o.rows(|k, marking, turns| {
         let m = measured(turns, o.against(), marking, o.repeats);
         let n = turns.jobs();
         let (other, port) = (m.other / n as f64 * 1e6, m.port / n as f64 * 1e6);
-        let (lens, marks) = (yes_no(k.lens), yes_no(marking));
-        print!("{:4} x {:4} {:4} {lens:4} {marks:7} ", k.width, k.height, k.dim);
+        let (lens, marks) = (lens_word(k.lens), yes_no(marking));
+        print!("{:4} x {:4} {:4} {lens:7} {marks:7} ", k.width, k.height, k.dim);
         println!("{other:9.1} {port:9.1} {:6.2} {:6.2} {:8} {:6}", m.ratio, m.least, turns.samples / n, turns.roots / n);
         worst[marking as usize] = worst[marking as usize].max(m.ratio);
     });

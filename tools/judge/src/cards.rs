@@ -1,7 +1,7 @@
 //! Job cards with the Rust's answers, for the list that the gate replays: a few small jobs of each way to end.
 use crate::compare;
 use crate::families;
-use crate::job::{Camera, Job};
+use crate::job::{Camera, Job, Lens};
 use crate::oracle::{self, Outcome, Seen};
 use std::collections::BTreeMap;
 use std::io::Write;
@@ -33,10 +33,12 @@ fn card(job: &Job) -> Option<Vec<u8>> {
     field(&mut card, 6, &[job.inverted as u8]);
     if let Some(c) = &job.camera {
         field(&mut card, 7, &floats(&[c.source, c.rectified].concat()));
-        match &c.lens {
-            None => field(&mut card, 8, &[0]),
-            Some(k) => field(&mut card, 8, &[&[1], &floats(k)[..]].concat()),
-        }
+        let kind = match &c.lens {
+            Lens::None => 0,
+            Lens::BrownConrady(_) => 1,
+            Lens::Fisheye(_) => 2,
+        };
+        field(&mut card, 8, &[&[kind], &floats(c.lens.coefficients())[..]].concat());
     }
     Some(card)
 }
@@ -75,7 +77,11 @@ fn job(card: &[u8]) -> Job {
         camera: fields.get(&7).map(|pair| Camera {
             source: numbers(pair),
             rectified: numbers(&pair[32..]),
-            lens: (fields[&8][0] == 1).then(|| numbers(&fields[&8][1..])),
+            lens: match fields[&8][0] {
+                1 => Lens::BrownConrady(numbers(&fields[&8][1..])),
+                2 => Lens::Fisheye(numbers(&fields[&8][1..])),
+                _ => Lens::None,
+            },
         }),
     }
 }
@@ -126,6 +132,8 @@ pub struct Options<'a> {
     /// tell what was read too: that anything was, and a stride above the width, are ways of their own then. Where nothing was read
     /// stride and polarity are none
     pub marks: bool,
+    /// jobs of one family alone
+    pub family: Option<&'a str>,
     pub list: &'a str,
     pub answers: &'a str,
 }
@@ -134,7 +142,7 @@ pub struct Options<'a> {
 pub fn run(options: &Options) -> bool {
     let mut kept: BTreeMap<(u32, bool, bool, String, bool, bool), Vec<(Vec<u8>, String)>> = BTreeMap::new();
     for seed in 0..options.seeds {
-        let job = families::job(seed, None);
+        let job = families::job(seed, options.family);
         let Some(card) = card(&job) else { continue };
         let Ok(seen) = oracle::judge(&job) else { continue };
         let o = &seen.outcome;

@@ -1,6 +1,6 @@
 //! Jobs from a seed. Each family aims at one part of document 01.
 use crate::draw::{posed, Canvas, Label};
-use crate::job::{Camera, Job};
+use crate::job::{Camera, Job, Lens};
 use crate::rng::{neighbour, Rng};
 use crate::steer;
 
@@ -11,6 +11,7 @@ pub const FAMILIES: &[Family] = &[
     ("label", 11, label),
     ("lattice", 3, lattice),
     ("lens", 14, lens),
+    ("fisheye", 10, fisheye),
     ("faint", 8, faint),
     ("partial", 6, partial),
     ("wide", 3, wide),
@@ -196,24 +197,34 @@ pub fn camera(r: &mut Rng, width: f64, height: f64) -> Camera {
     let c = [f, f * r.range(0.95, 1.05), width * r.range(0.4, 0.6), height * r.range(0.4, 0.6)];
     let near = |r: &mut Rng, by: f64| c.map(|v| v * r.range(1.0 - by, 1.0 + by));
     let (rectified, lens) = match r.below(9) {
-        0 => (c, None),
-        1 => (c, Some([0.0; 5])),
-        2 => (near(r, 0.2), None),
-        3 => (near(r, 0.2), Some([0.0, -0.0, 0.0, -0.0, 0.0])),
+        0 => (c, Lens::None),
+        1 => (c, Lens::BrownConrady([0.0; 5])),
+        2 => (near(r, 0.2), Lens::None),
+        3 => (near(r, 0.2), Lens::BrownConrady([0.0, -0.0, 0.0, -0.0, 0.0])),
         4 | 5 | 6 => {
             let k = [r.range(-0.1, 0.1), r.range(-0.05, 0.05), r.range(-0.003, 0.003), r.range(-0.003, 0.003), r.range(-0.01, 0.01)];
-            (near(r, 0.05), Some(k))
+            (near(r, 0.05), Lens::BrownConrady(k))
         }
         7 => {
             let k = [r.range(-0.5, 0.5), r.range(-0.3, 0.3), r.range(-0.05, 0.05), r.range(-0.05, 0.05), r.range(-0.2, 0.2)];
-            (near(r, 0.1), Some(k))
+            (near(r, 0.1), Lens::BrownConrady(k))
         }
         _ => {
             let k = [r.range(-3.0, 3.0), r.range(-3.0, 3.0), r.range(-1.0, 1.0), r.range(-1.0, 1.0), r.range(-3.0, 3.0)];
-            (near(r, 0.5), Some(k))
+            (near(r, 0.5), Lens::BrownConrady(k))
         }
     };
     Camera { source: c, rectified, lens }
+}
+
+/// A fisheye: equidistant, weak, strong, and so strong that it has no image at its rim, with up to 120 degrees across a picture.
+pub fn fisheye_camera(r: &mut Rng, width: f64, height: f64) -> Camera {
+    let c = camera(r, width, height);
+    let wide = if r.chance(0.5) { r.range(0.4, 1.0) } else { 1.0 };
+    let wider = |i: [f64; 4]| [i[0] * wide, i[1] * wide, i[2], i[3]];
+    let most = r.pick(&[0.0, 0.05, 0.05, 0.3, 3.0]);
+    let k = [1.0, 0.5, 0.2, 0.1].map(|by| most * by * r.range(-1.0, 1.0));
+    Camera { source: wider(c.source), rectified: wider(c.rectified), lens: Lens::Fisheye(k) }
 }
 
 // ---- families
@@ -226,6 +237,36 @@ fn label(r: &mut Rng) -> Job {
 fn lens(r: &mut Rng) -> Job {
     let s = Style::any(r);
     drawn(r, s, |r, w, h| Some(camera(r, w, h)))
+}
+
+/// A label through a fisheye, or a job of another family with one before its camera, or in the place of its lens.
+fn fisheye(r: &mut Rng) -> Job {
+    if r.chance(0.5) {
+        let mut s = Style::any(r);
+        if r.chance(0.2) {
+            s.contrast = r.range(8.0, 30.0);
+        }
+        return drawn(r, s, |r, w, h| Some(fisheye_camera(r, w, h)));
+    }
+    let mut job = r.pick(&[partial, wide, small, noise, stripes, lattice, tiny, degenerate, off, extreme, thin, zoom, limits, refused])(r);
+    let c = fisheye_camera(r, job.width as f64, job.height as f64);
+    job.camera = Some(match job.camera {
+        Some(own) => Camera { lens: behind(r, own, c.lens), ..own },
+        None if r.chance(0.3) => Camera { rectified: c.source, ..c },
+        None => c,
+    });
+    job
+}
+
+/// The fisheye for another family's camera, with a coefficient that was not finite carried over, and some as small as its own.
+fn behind(r: &mut Rng, own: Camera, fisheye: Lens) -> Lens {
+    let Lens::Fisheye(mut k) = fisheye else { return fisheye };
+    for (at, v) in own.lens.coefficients().iter().enumerate() {
+        if !v.is_finite() || r.chance(0.3) {
+            k[at % 4] = *v;
+        }
+    }
+    Lens::Fisheye(k)
 }
 
 /// Contrasts around the floor of 12, so that edges come and go from round to round.
@@ -436,12 +477,12 @@ fn lattice_camera(r: &mut Rng, corners: &mut [[f64; 2]; 4]) -> Camera {
     if r.chance(0.5) {
         let axis = r.below(2) as usize;
         (source[axis], source[axis + 2], rectified[axis]) = (1e-200, -0.0, 1e200);
-        return Camera { source, rectified, lens: None };
+        return Camera { source, rectified, lens: Lens::None };
     }
     let by = [r.int(-5, 5) as f64, r.int(-5, 5) as f64];
     *corners = corners.map(|[x, y]| [x + by[0], y + by[1]]);
     (rectified[2], rectified[3]) = (rectified[2] + by[0], rectified[3] + by[1]);
-    Camera { source, rectified, lens: None }
+    Camera { source, rectified, lens: Lens::None }
 }
 
 fn tiny(r: &mut Rng) -> Job {
@@ -602,11 +643,9 @@ fn extreme(r: &mut Rng) -> Job {
                     c.rectified[k] = v;
                 }
             }
-            if let Some(k) = &mut c.lens {
-                for v in k.iter_mut() {
-                    if r.chance(0.3) {
-                        *v = r.range(-1.0, 1.0) * r.decades(-300.0, 308.0);
-                    }
+            for v in c.lens.coefficients_mut() {
+                if r.chance(0.3) {
+                    *v = r.range(-1.0, 1.0) * r.decades(-300.0, 308.0);
                 }
             }
             job.camera = Some(c);
@@ -654,7 +693,8 @@ fn thin(r: &mut Rng) -> Job {
     }
     job.camera = r.chance(0.2).then(|| {
         let c = camera(r, w as f64, h as f64);
-        Camera { rectified: c.source, lens: r.chance(0.7).then(|| [0.0; 5].map(|_: f64| r.range(-1e-3, 1e-3))), ..c }
+        let lens = if r.chance(0.7) { Lens::BrownConrady([0.0; 5].map(|_: f64| r.range(-1e-3, 1e-3))) } else { Lens::None };
+        Camera { rectified: c.source, lens, ..c }
     });
     job
 }
@@ -720,7 +760,8 @@ fn zoomed(r: &mut Rng, mut s: Style) -> Job {
         let c = [1.0, r.range(0.9, 1.1), w * r.range(0.4, 0.6), h * r.range(0.4, 0.6)];
         let rectified = [c[0] * by, c[1] * by, 0.0, 0.0];
         // The picture plane is measured in pixels here, so that the coefficients are small.
-        let lens = bends.then(|| [1e-6, 1e-12, 1e-6, 1e-6, 1e-18].map(|k: f64| k * r.range(-1.0, 1.0)));
+        let mut k = || [1e-6, 1e-12, 1e-6, 1e-6, 1e-18].map(|k: f64| k * r.range(-1.0, 1.0));
+        let lens = if bends { Lens::BrownConrady(k()) } else { Lens::None };
         Some(Camera { source: c, rectified, lens })
     });
     if r.chance(0.6) {
@@ -834,9 +875,10 @@ fn refused(r: &mut Rng) -> Job {
                         }
                     }
                     _ => {
-                        let mut k = c.lens.unwrap_or_default();
-                        k[r.below(5) as usize] = v;
-                        c.lens = Some(k);
+                        if let Lens::None = c.lens {
+                            c.lens = Lens::BrownConrady([0.0; 5]);
+                        }
+                        c.lens.coefficients_mut()[r.below(5) as usize] = v;
                     }
                 }
                 job.camera = Some(c);
@@ -849,18 +891,24 @@ fn refused(r: &mut Rng) -> Job {
 // ---- the benchmark
 
 /// A photograph that a label fills.
-pub fn photograph(seed: u64, width: usize, height: usize, dim: usize, lens: bool) -> Job {
+pub fn photograph(seed: u64, width: usize, height: usize, dim: usize, lens: Lens) -> Job {
     photograph_of(seed, width, height, dim, lens, height as f64 * 0.38)
 }
 
 /// A photograph with a label of so many pixels from its middle to a side: clean enough to be answered, rough enough to be ordinary.
-pub fn photograph_of(seed: u64, width: usize, height: usize, dim: usize, lens: bool, half: f64) -> Job {
+pub fn photograph_of(seed: u64, width: usize, height: usize, dim: usize, lens: Lens, half: f64) -> Job {
     let mut r = Rng::new(seed ^ 0xbe_4c4);
     let modules = modules_like_a_code(&mut r, dim);
     let (w, h) = (width as f64, height as f64);
-    let camera = lens.then(|| {
-        let c = [w * 0.9, w * 0.9, w / 2.0, h / 2.0];
-        Camera { source: c, rectified: c, lens: Some([-0.08, 0.02, 0.001, -0.0008, 0.003]) }
+    // A fisheye has the label in 80 degrees or so, where both ways of its arctangent are gone.
+    let camera = match lens {
+        Lens::None => None,
+        Lens::BrownConrady(_) => Some(0.9),
+        Lens::Fisheye(_) => Some(0.35),
+    };
+    let camera = camera.map(|f| {
+        let c = [w * f, w * f, w / 2.0, h / 2.0];
+        Camera { source: c, rectified: c, lens }
     });
     let quad = posed(&mut r, [w / 2.0, h / 2.0], half, 0.35);
     let mut canvas = Canvas::new(width, height, 215.0);

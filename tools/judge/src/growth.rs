@@ -1,6 +1,6 @@
 //! How the port's time grows with the samples of a job and with the size of its picture: ratios, of runs in one process.
 use crate::families;
-use crate::job::Job;
+use crate::job::{Job, Lens};
 use crate::turns::{median_of, Side, Turns};
 
 /// The port's seconds in each repeat, for each of a list: which group of jobs, and whether marking. A repeat times all of them close
@@ -23,7 +23,7 @@ fn relative(to: &[f64], times: &[f64]) -> f64 {
 /// The same size of picture, and more modules.
 fn with_samples(photographs: u64, repeats: u64) {
     let dims = [21, 33, 57, 177];
-    let jobs = dims.map(|dim| (0..photographs).map(|seed| families::photograph(seed, 640, 480, dim, false)).collect::<Vec<_>>());
+    let jobs = dims.map(|dim| (0..photographs).map(|seed| families::photograph(seed, 640, 480, dim, Lens::None)).collect::<Vec<_>>());
     let mut groups: Vec<Turns> = jobs.iter().map(|j| Turns::new(j, Side::Rust)).collect();
     let times = seconds(&mut groups, &[0, 1, 2, 3].map(|k| (k, false)), repeats);
     println!("relative to dim 21, at 640 x 480:\n dim  samples   time  time/samples");
@@ -37,7 +37,7 @@ fn with_samples(photographs: u64, repeats: u64) {
 /// The same label, pixel for pixel, and more around it.
 fn with_picture(photographs: u64, repeats: u64) {
     let sizes = [(640, 480), (1280, 960), (2560, 1920), (5120, 3840)];
-    let first: Vec<Job> = (0..photographs).map(|seed| families::photograph_of(seed, 640, 480, 33, false, 120.0)).collect();
+    let first: Vec<Job> = (0..photographs).map(|seed| families::photograph_of(seed, 640, 480, 33, Lens::None, 120.0)).collect();
     let jobs = sizes.map(|(w, h)| first.iter().map(|job| families::framed(job, w, h)).collect::<Vec<_>>());
     let mut groups: Vec<Turns> = jobs.iter().map(|j| Turns::new(j, Side::Rust)).collect();
     assert!(groups.iter().all(|g| g.samples == groups[0].samples), "the picture alone grows");

@@ -1,5 +1,5 @@
 //! A job in the Rust's own types, which each build of the original has for itself: so the text is a macro's.
-use crate::job::{Camera, Job};
+use crate::job::{Camera, Job, Lens};
 
 macro_rules! input {
     ($build:ident) => {
@@ -11,7 +11,11 @@ macro_rules! input {
 
             pub fn calibration(c: &Camera, width: u32, height: u32) -> Option<CameraCalibration> {
                 let intrinsics = |n: [f64; 4]| CameraIntrinsics { fx: n[0], fy: n[1], cx: n[2], cy: n[3] };
-                let lens = c.lens.map_or(LensDistortion::None, LensDistortion::BrownConrady);
+                let lens = match c.lens {
+                    Lens::None => LensDistortion::None,
+                    Lens::BrownConrady(k) => LensDistortion::BrownConrady(k),
+                    Lens::Fisheye(k) => LensDistortion::Fisheye(k),
+                };
                 let size = Size::new(width as usize, height as usize);
                 CameraCalibration::new(size, intrinsics(c.source), lens).ok()?.with_rectified_intrinsics(intrinsics(c.rectified)).ok()
             }

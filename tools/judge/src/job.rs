@@ -2,12 +2,44 @@
 use std::fmt;
 
 #[derive(Clone, Copy, Debug)]
+pub enum Lens {
+    None,
+    /// k1, k2, p1, p2, k3
+    BrownConrady([f64; 5]),
+    /// k1, k2, k3, k4
+    Fisheye([f64; 4]),
+}
+
+impl Lens {
+    pub fn coefficients(&self) -> &[f64] {
+        match self {
+            Lens::None => &[],
+            Lens::BrownConrady(k) => k,
+            Lens::Fisheye(k) => k,
+        }
+    }
+
+    pub fn coefficients_mut(&mut self) -> &mut [f64] {
+        match self {
+            Lens::None => &mut [],
+            Lens::BrownConrady(k) => k,
+            Lens::Fisheye(k) => k,
+        }
+    }
+}
+
+#[derive(Clone, Copy, Debug)]
 pub struct Camera {
     /// fx, fy, cx, cy
     pub source: [f64; 4],
     pub rectified: [f64; 4],
-    /// k1, k2, p1, p2, k3
-    pub lens: Option<[f64; 5]>,
+    pub lens: Lens,
+}
+
+/// A fisheye's angle with the axis, bent.
+fn bent_angle([k1, k2, k3, k4]: [f64; 4], angle: f64) -> f64 {
+    let t2 = angle * angle;
+    angle * (1.0 + t2 * (k1 + t2 * (k2 + t2 * (k3 + t2 * k4))))
 }
 
 impl Camera {
@@ -21,7 +53,15 @@ impl Camera {
     }
 
     fn bend(&self, x: f64, y: f64) -> (f64, f64) {
-        let [k1, k2, p1, p2, k3] = self.lens.unwrap_or_default();
+        let [k1, k2, p1, p2, k3] = match self.lens {
+            Lens::None => return (x, y),
+            Lens::BrownConrady(k) => k,
+            Lens::Fisheye(k) => {
+                let r = x.hypot(y).max(1e-12);
+                let scale = bent_angle(k, r.atan()) / r;
+                return (x * scale, y * scale);
+            }
+        };
         let r2 = x * x + y * y;
         let radial = 1.0 + r2 * (k1 + r2 * (k2 + r2 * k3));
         (
@@ -30,18 +70,36 @@ impl Camera {
         )
     }
 
-    /// Back from the source picture, nearly: by iteration.
+    /// Back through the lens, nearly: by iteration, of a fisheye over the angle alone.
+    fn straighten(&self, xd: f64, yd: f64) -> (f64, f64) {
+        let (mut x, mut y) = (xd, yd);
+        match self.lens {
+            Lens::None => (),
+            Lens::BrownConrady(_) => {
+                for _ in 0..5 {
+                    let (bx, by) = self.bend(x, y);
+                    x += xd - bx;
+                    y += yd - by;
+                }
+            }
+            Lens::Fisheye(k) => {
+                let bent = xd.hypot(yd).max(1e-12);
+                let mut angle = bent;
+                for _ in 0..5 {
+                    angle = (angle + bent - bent_angle(k, angle)).clamp(0.0, 1.56);
+                }
+                let scale = angle.tan() / bent;
+                (x, y) = (x * scale, y * scale);
+            }
+        }
+        (x, y)
+    }
+
+    /// Back from the source picture, nearly.
     pub fn unproject(&self, p: [f64; 2]) -> [f64; 2] {
         let [fx, fy, cx, cy] = self.source;
         let (xd, yd) = ((p[0] - cx) / fx, (p[1] - cy) / fy);
-        let (mut x, mut y) = (xd, yd);
-        if self.lens.is_some() {
-            for _ in 0..5 {
-                let (bx, by) = self.bend(x, y);
-                x += xd - bx;
-                y += yd - by;
-            }
-        }
+        let (x, y) = self.straighten(xd, yd);
         let [fx, fy, cx, cy] = self.rectified;
         [fx * x + cx, fy * y + cy]
     }
@@ -107,8 +165,9 @@ impl fmt::Display for Job {
                 list(f, "source intrinsics", &c.source)?;
                 list(f, "rectified intrinsics", &c.rectified)?;
                 match &c.lens {
-                    None => writeln!(f, "  lens: none")?,
-                    Some(k) => list(f, "Brown-Conrady", k)?,
+                    Lens::None => writeln!(f, "  lens: none")?,
+                    Lens::BrownConrady(k) => list(f, "Brown-Conrady", k)?,
+                    Lens::Fisheye(k) => list(f, "fisheye", k)?,
                 }
             }
         }

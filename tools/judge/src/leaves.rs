@@ -1,15 +1,16 @@
 //! The leaf calls, on random and special floats.
 use crate::families;
 use crate::input::watched::calibration;
-use crate::job::Camera;
+use crate::job::{Camera, Lens};
 use crate::oracle::same_floats;
 use crate::port::{self, Aim, Border, Photograph};
 use crate::rng::{neighbour, Rng};
 use crate::rules;
 use watched::refine::access::geometry::{
-    intersect_lines, numbers, of_numbers, sample_bilinear, BorderMode, Line2, PerspectiveTransform,
+    arctan, intersect_lines, numbers, of_numbers, sample_bilinear, BorderMode, Line2, PerspectiveTransform,
 };
 use watched::refine::access::image::LumaView;
+use std::sync::OnceLock;
 use watched::refine::access::{self, Input};
 
 /// A call's name, its input in words, and both ends. `port` is `None` where the archive lacks the call.
@@ -37,6 +38,9 @@ fn got<const N: usize>(leaf: port::Leaf<N>) -> Option<(u32, Vec<f64>)> {
 
 // ---- inputs
 
+/// Intrinsics that change nothing.
+const PLANE: [f64; 4] = [1.0, 1.0, 0.0, 0.0];
+
 /// A coordinate in and around a picture of so many pixels.
 fn coordinate(r: &mut Rng, n: u32) -> f64 {
     match r.below(8) {
@@ -58,14 +62,53 @@ fn camera(r: &mut Rng) -> Camera {
             c.rectified[k] = r.float();
         }
     }
-    if let Some(k) = &mut c.lens {
-        for v in k.iter_mut() {
-            if r.chance(0.05) {
-                *v = r.float();
-            }
+    for v in c.lens.coefficients_mut() {
+        if r.chance(0.05) {
+            *v = r.float();
         }
     }
     c
+}
+
+/// Distances whose arctangent tells a division by 3 from a product with the inverse: one in some hundred thousand does, so they are
+/// sought once.
+fn told_by_thirds() -> &'static [f64] {
+    static FOUND: OnceLock<Vec<f64>> = OnceLock::new();
+    FOUND.get_or_init(|| {
+        let mut r = Rng::new(3);
+        let told = |q: &f64| q - q * q * q / 3.0 != q - q * q * q * (1.0 / 3.0);
+        std::iter::repeat_with(|| r.range(1.0 / 512.0, 1.0 / 256.0)).filter(told).take(16).collect()
+    })
+}
+
+/// A distance from the axis: 0, and what is 0 by underflow of its square; a place of the table or beside it, on both sides of 1; 1;
+/// where squares overflow; and others.
+fn distance(r: &mut Rng) -> f64 {
+    let place = r.int(1, 256) as f64;
+    match r.below(11) {
+        10 => r.pick(told_by_thirds()),
+        0 => r.pick(&[0.0, 5e-324, 1e-170, 1.5e-162, 2.3e-162, 1e-154]),
+        1 | 2 => neighbour(place / 256.0, r.int(-2, 2)),
+        3 => neighbour(256.0 / place, r.int(-2, 2)),
+        4 => neighbour(1.0, r.int(-3, 3)) * r.pick(&[1.0, 1.0, 0.9995, 1.0005]),
+        5 => r.pick(&[1e100, 1e154, 1.34e154, 1.35e154, 1e200, f64::MAX]),
+        6 => r.decades(-3.0, 3.0),
+        7 => r.float(),
+        _ => r.range(0.0, 3.0),
+    }
+}
+
+/// A fisheye's coefficients: zeros, some, wild ones, and those whose polynomial of this angle is 0 or beside it, and below 0.
+fn coefficients(r: &mut Rng, angle: f64) -> [f64; 4] {
+    let t2 = angle * angle;
+    match r.below(8) {
+        0 => [0.0; 4],
+        1 => [neighbour(-1.0 / t2, r.int(-1, 1)), 0.0, 0.0, 0.0],
+        2 => [0.0, 0.0, 0.0, -1.0 / (t2 * t2 * t2 * t2)],
+        3 => [-r.decades(-1.0, 2.0), 0.0, r.range(-1.0, 1.0), r.range(-1.0, 1.0)],
+        4 => [0; 4].map(|_| r.float()),
+        _ => [0; 4].map(|_| r.range(-0.3, 0.3)),
+    }
 }
 
 fn quad(r: &mut Rng) -> [[f64; 2]; 4] {
@@ -147,6 +190,26 @@ fn to_source(r: &mut Rng) -> Case {
     };
     Case {
         name: "rectified_to_source",
+        input: format!("{c:?} at {x:?}, {y:?}"),
+        rust,
+        port: got(port::rectified_to_source(&c, x, y)),
+    }
+}
+
+/// A place through a fisheye, mostly with intrinsics that leave the picture plane as it is.
+fn through_fisheye(r: &mut Rng) -> Case {
+    let d = distance(r);
+    let turn = r.range(0.0, 6.3);
+    let [x, y] = r.pick(&[[d, 0.0], [0.0, d], [-d, -0.0], [d * turn.cos(), d * turn.sin()]]);
+    let k = coefficients(r, arctan((x * x + y * y).sqrt()));
+    let mut c = if r.chance(0.8) { Camera { source: PLANE, rectified: PLANE, lens: Lens::None } } else { camera(r) };
+    c.lens = Lens::Fisheye(k);
+    let rust = match rules::camera(&c) {
+        0 => found(20, calibration(&c, 100, 80).expect("6 passed").rectified_to_source([x, y])),
+        n => refused(n, 2),
+    };
+    Case {
+        name: "rectified_to_source, fisheye",
         input: format!("{c:?} at {x:?}, {y:?}"),
         rust,
         port: got(port::rectified_to_source(&c, x, y)),
@@ -370,7 +433,10 @@ fn localize(r: &mut Rng) -> Case {
         bytes.pop();
     }
     let camera = r.chance(0.4).then(|| {
-        let c = camera(r);
+        let mut c = camera(r);
+        if r.chance(0.3) {
+            c.lens = Lens::Fisheye([0; 4].map(|_| r.range(-0.3, 0.3)));
+        }
         let near = [width as f64, width as f64, width as f64 / 2.0, height as f64 / 2.0];
         let source = if r.chance(0.8) { near } else { c.source };
         let rectified = if r.chance(0.8) { source.map(|v| v * r.range(0.98, 1.02)) } else { c.rectified };
@@ -440,6 +506,7 @@ type Leaf = (u64, fn(&mut Rng) -> Case);
 const LEAVES: &[Leaf] = &[
     (20, bilinear),
     (12, to_source),
+    (20, through_fisheye),
     (10, square),
     (6, quads),
     (6, map),

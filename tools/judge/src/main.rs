@@ -18,10 +18,10 @@ mod turns;
 const HELP: &str = "judge jobs [--seeds N] [--from SEED] [--family NAME] [--ways]
 judge job SEED [--family NAME]
 judge leaves [--calls N] [--from SEED]
-judge bench [--before] [--photographs N] [--repeats N] [--width N] [--dim N] [--lens yes|no] [--marking yes|no]
+judge bench [--before] [--photographs N] [--repeats N] [--width N] [--dim N] [--lens yes|no|fisheye] [--marking yes|no]
             [--side rust|port|before]
 judge growth [--photographs N] [--repeats N]
-judge cards LIST ANSWERS [--seeds N] [--of-each N] [--marks]
+judge cards LIST ANSWERS [--seeds N] [--of-each N] [--marks] [--family NAME]
 judge card FILE";
 
 /// The value behind a word, if the word is there.
@@ -70,6 +70,7 @@ fn main() {
             seeds: number(&words, "--seeds", 4000),
             of_each: number(&words, "--of-each", 2) as usize,
             marks: said(&words, "--marks"),
+            family,
             list: &words[1],
             answers: &words[2],
         }),

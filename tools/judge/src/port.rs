@@ -1,5 +1,5 @@
 //! The port, through the crate that other programs use. `None` where there is no port to call.
-use crate::job::{Camera, Job};
+use crate::job::{Camera, Job, Lens};
 use crate::oracle::Outcome;
 use trufolmesca::raw::{self, Written};
 use trufolmesca::{Line, Map};
@@ -15,7 +15,11 @@ macro_rules! refinement {
         }
 
         fn camera(c: &Camera) -> $bindings::Camera {
-            let lens = c.lens.map(|[k1, k2, p1, p2, k3]| $bindings::Lens { k1, k2, p1, p2, k3 });
+            let lens = match c.lens {
+                Lens::None => None,
+                Lens::BrownConrady([k1, k2, p1, p2, k3]) => Some($bindings::Lens::BrownConrady { k1, k2, p1, p2, k3 }),
+                Lens::Fisheye([k1, k2, k3, k4]) => Some($bindings::Lens::Fisheye { k1, k2, k3, k4 }),
+            };
             $bindings::Camera { source: intrinsics(c.source), rectified: intrinsics(c.rectified), lens }
         }
 
@@ -75,7 +79,7 @@ refinement!(trufolmesca, port);
 
 /// The port as it was before, from an archive of its own.
 pub mod before {
-    use super::{Camera, Job, Outcome};
+    use super::{Camera, Job, Lens, Outcome};
 
     refinement!(trufolmesca_before, before);
 }

@@ -17,7 +17,7 @@ pub fn photograph(bytes: usize, width: u32, height: u32, stride: u32) -> u32 {
 /// 6; 0 where it does not refuse.
 pub fn camera(c: &Camera) -> u32 {
     let intrinsics = |i: &[f64; 4]| i.iter().all(|v| v.is_finite()) && i[0] > 0.0 && i[1] > 0.0;
-    let lens = c.lens.iter().flatten().all(|v| v.is_finite());
+    let lens = c.lens.coefficients().iter().all(|v| v.is_finite());
     if intrinsics(&c.source) && intrinsics(&c.rectified) && lens {
         0
     } else {

@@ -1,7 +1,7 @@
 //! Families that ask the Rust where a job leads, and move it until its second round ends as wanted.
 use crate::draw::Canvas;
 use crate::families;
-use crate::job::{Camera, Job};
+use crate::job::{Camera, Job, Lens};
 use crate::oracle::{self, Outcome};
 use crate::rng::Rng;
 use watched::refine::access::RoundEnd;
@@ -141,7 +141,7 @@ pub fn folded(r: &mut Rng) -> Job {
     let bytes = canvas.bytes(r, width, 0.0);
     let camera = r.chance(0.4).then(|| {
         let c = [300.0, 310.0, width as f64 / 2.0, height as f64 / 2.0];
-        Camera { source: c, rectified: c, lens: r.chance(0.7).then_some([0.0; 5]) }
+        Camera { source: c, rectified: c, lens: if r.chance(0.7) { Lens::BrownConrady([0.0; 5]) } else { Lens::None } }
     });
     let mut job = Job {
         family: "",

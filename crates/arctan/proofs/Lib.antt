@@ -1,0 +1,4 @@
+-- The laws of the arctangent.
+pub mod Numbers
+pub mod Places
+pub mod Examples

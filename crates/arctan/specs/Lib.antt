@@ -1,0 +1,2 @@
+-- What the contract of `arctan` cites.
+pub mod Arctan

@@ -1,0 +1,2 @@
+-- What other crates may cite of `c_views`.
+pub mod UnknownKind
