@@ -80,11 +80,15 @@ distorted (lens.Fisheye k1 k2 k3 k4) x y = fisheye k1 k2 k3 k4 x y
 abbrev pub in_pixels : CameraIntrinsics → Normalized → SourcePixel
 in_pixels i d = source (i.fx ⊗ d.0 ⊕ i.cx) (i.fy ⊗ d.1 ⊕ i.cy)
 
+-- a rectified place on the picture plane
+abbrev pub on_plane : CameraIntrinsics → SourcePixel → Normalized
+on_plane r p = normalized ((p.0 ⊖ r.cx) ⊘ r.fx) ((p.1 ⊖ r.cy) ⊘ r.fy)
+
 -- through the rectified picture's intrinsics, the lens, and the source picture's intrinsics
 abbrev pub projected : CameraCalibration → SourcePixel → Option SourcePixel
 projected c p =
-    let r = c.rectified in
-    option_map (in_pixels c.intrinsics) (distorted c.distortion ((p.0 ⊖ r.cx) ⊘ r.fx) ((p.1 ⊖ r.cy) ⊘ r.fy))
+    let n = on_plane c.rectified p in
+    option_map (in_pixels c.intrinsics) (distorted c.distortion n.0 n.1)
 
 abbrev pub if_finite : SourcePixel → Option SourcePixel
 if_finite p = when is_finite p.0 && is_finite p.1 then Some p else None

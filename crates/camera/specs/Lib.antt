@@ -1,2 +1,3 @@
 -- What the contracts of `camera` cite.
 pub mod Camera
+pub mod Together

@@ -1,9 +1,16 @@
 // camera.rs: from a rectified place to the source picture, for no lens, Brown-Conrady and fisheye.
 #![tactic(auto)]
 
-ghost use Rattle.std.specs.Prelude.{◌≡◌};
-ghost use Rattle.camera.specs.Camera.{valid_intrinsics, valid_lens, valid_camera, is_none, is_identity, fisheye as fisheye_of, distorted, projected, if_finite, rectified_to_source, camera_answer};
+ghost use Rattle.std.specs.Prelude.{◌≡◌, ◌<◌, ℕ, Float, Option, slice_index_or};
+ghost use Rattle.pixel.specs.declared.SourcePixel.{SourcePixel};
+ghost use Rattle.arctan.specs.Arctan.{arctangent};
+ghost use Rattle.camera.specs.declared.fisheye.Bearing.{Bearing};
+ghost use Rattle.camera.specs.Together.{IsBearing, IsFisheye};
+ghost use Rattle.camera.specs.Camera.{valid_intrinsics, valid_lens, valid_camera, is_none, is_identity, distorted, on_plane, in_pixels, projected, if_finite, rectified_to_source, camera_answer};
 
+mod fisheye;
+
+use fisheye::Bearing;
 use number::Refusal;
 use pixel::SourcePixel;
 
@@ -62,31 +69,6 @@ impl CameraIntrinsics {
     }
 }
 
-// Where the fisheye sends a place: nowhere if its distance from the axis is not finite, or if the
-// polynomial of its angle is not above 0. It stays a call, so that the sampler is no slower for the
-// other lenses.
-#[inline(never)]
-#[tactic(auto, unfolding(crate::specs::Camera::fisheye))]
-fn fisheye(k1: f64, k2: f64, k3: f64, k4: f64, x: f64, y: f64) -> Option<Normalized>
-    ensures { result ≡ fisheye_of k1 k2 k3 k4 x y }
-{
-    let r = ieee_root::sqrt(x * x + y * y);
-    if !ieee::is_finite(r) {
-        return None;
-    }
-    if r == 0.0 {
-        return Some(Normalized(0.0, 0.0));
-    }
-    let theta = arctan::arctan(r);
-    let t2 = theta * theta;
-    let td = theta * (1.0 + t2 * (k1 + t2 * (k2 + t2 * (k3 + t2 * k4))));
-    if td <= 0.0 {
-        return None;
-    }
-    let scale = td / r;
-    Some(Normalized(x * scale, y * scale))
-}
-
 impl LensDistortion {
     // Finite coefficients.
     fn valid(self) -> bool
@@ -115,12 +97,13 @@ impl LensDistortion {
     }
 
     // Where the lens sends a place on the picture plane, if anywhere.
-    fn distort(self, x: f64, y: f64) -> Option<Normalized>
-        ensures { result ≡ distorted self x y }
+    fn distort(self, p: Normalized) -> Option<Normalized>
+        ensures { result ≡ distorted self p.0 p.1 }
     {
         match self {
-            LensDistortion::None => Some(Normalized(x, y)),
+            LensDistortion::None => Some(p),
             LensDistortion::BrownConrady { k1, k2, p1, p2, k3 } => {
+                let Normalized(x, y) = p;
                 let r2 = x * x + y * y;
                 let radial = 1.0 + r2 * (k1 + r2 * (k2 + r2 * k3));
                 Some(Normalized(
@@ -128,7 +111,7 @@ impl LensDistortion {
                     y * radial + p1 * (r2 + 2.0 * y * y) + 2.0 * p2 * x * y,
                 ))
             }
-            LensDistortion::Fisheye { k1, k2, k3, k4 } => fisheye(k1, k2, k3, k4, x, y),
+            LensDistortion::Fisheye { k1, k2, k3, k4 } => fisheye::bent(k1, k2, k3, k4, p),
         }
     }
 }
@@ -144,6 +127,18 @@ fn if_finite(p: SourcePixel) -> Option<SourcePixel>
     }
 }
 
+// The angles with the axis of places.
+fn angles(bearings: [Bearing; 7]) -> [f64; 7]
+    ensures { (i : ℕ) (b : Bearing) (t : Float) → i < 7 →
+        slice_index_or result i t ≡ arctangent (slice_index_or bearings i b).r }
+{
+    let mut all = [0.0f64; 7];
+    for k in 0..7usize {
+        all[k] = arctan::arctan(bearings[k].r);
+    }
+    all
+}
+
 impl CameraCalibration {
     // Not refused by `Lens`.
     pub fn valid(self) -> bool
@@ -153,23 +148,38 @@ impl CameraCalibration {
     }
 
     // No lens, and both pictures have the same intrinsics: the camera changes nothing.
-    pub fn is_identity(self) -> bool
+    fn is_identity(self) -> bool
         ensures { result ≡ is_identity self }
     {
         self.distortion.is_none() && self.intrinsics == self.rectified
     }
 
-    // Through the rectified picture's intrinsics, the lens, and the source picture's intrinsics.
-    pub fn project(self, p: SourcePixel) -> Option<SourcePixel>
-        ensures { result ≡ projected self p }
+    // A rectified place on the picture plane.
+    fn on_plane(self, p: SourcePixel) -> Normalized
+        ensures { result ≡ on_plane self.rectified p }
     {
-        let x = (p.0 - self.rectified.cx) / self.rectified.fx;
-        let y = (p.1 - self.rectified.cy) / self.rectified.fy;
-        let d = self.distortion.distort(x, y)?;
-        Some(SourcePixel(
+        Normalized(
+            (p.0 - self.rectified.cx) / self.rectified.fx,
+            (p.1 - self.rectified.cy) / self.rectified.fy,
+        )
+    }
+
+    // A place of the picture plane in the source picture.
+    fn in_pixels(self, d: Normalized) -> SourcePixel
+        ensures { result ≡ in_pixels self.intrinsics d }
+    {
+        SourcePixel(
             self.intrinsics.fx * d.0 + self.intrinsics.cx,
             self.intrinsics.fy * d.1 + self.intrinsics.cy,
-        ))
+        )
+    }
+
+    // Through the rectified picture's intrinsics, the lens, and the source picture's intrinsics.
+    fn project(self, p: SourcePixel) -> Option<SourcePixel>
+        ensures { result ≡ projected self p }
+    {
+        let d = self.distortion.distort(self.on_plane(p))?;
+        Some(self.in_pixels(d))
     }
 
     // Where a rectified place lies in the source picture. Whoever samples through the camera has
@@ -184,6 +194,73 @@ impl CameraCalibration {
             return Some(p);
         }
         if_finite(self.project(p)?)
+    }
+
+    // The bearing of a rectified place.
+    fn bearing(self, p: SourcePixel) -> Bearing
+        ensures { IsBearing self.rectified p result }
+    {
+        Bearing::of(self.on_plane(p))
+    }
+
+    // The bearings of places. This array and the three like it are filled by an index: with `map`,
+    // which takes each element through an `Option`, a job through a lens took a seventh longer.
+    fn bearings(self, places: [SourcePixel; 7]) -> [Bearing; 7]
+        ensures { (i : ℕ) (p : SourcePixel) (b : Bearing) → i < 7 →
+            IsBearing self.rectified (slice_index_or places i p) (slice_index_or result i b) }
+    {
+        let mut all = [Bearing::of(Normalized(0.0, 0.0)); 7];
+        for k in 0..7usize {
+            all[k] = self.bearing(places[k]);
+        }
+        all
+    }
+
+    // Where a place lies in the source picture of a fisheye, whose bearing and angle are known.
+    fn through_fisheye(self, p: SourcePixel, at: Bearing, theta: f64) -> Option<SourcePixel>
+        requires bearing { IsBearing self.rectified p at }
+        requires angle { theta ≡ arctangent at.r }
+        ensures { IsFisheye self.distortion → result ≡ rectified_to_source self p }
+    {
+        if_finite(p)?;
+        match self.distortion {
+            LensDistortion::Fisheye { k1, k2, k3, k4 } => {
+                let d = at.bent(k1, k2, k3, k4, theta)?;
+                if_finite(self.in_pixels(d))
+            }
+            _ => None,
+        }
+    }
+
+    // Where places lie in the source picture of a fisheye. One place's steps wait for each other, so
+    // each is done for all of them before the next.
+    #[inline(never)]
+    fn places_through_fisheye(self, places: [SourcePixel; 7]) -> [Option<SourcePixel>; 7]
+        ensures { (i : ℕ) (p : SourcePixel) (q : Option SourcePixel) → i < 7 → IsFisheye self.distortion →
+            slice_index_or result i q ≡ rectified_to_source self (slice_index_or places i p) }
+    {
+        let bearings = self.bearings(places);
+        let angles = angles(bearings);
+        let mut all = [None; 7];
+        for k in 0..7usize {
+            all[k] = self.through_fisheye(places[k], bearings[k], angles[k]);
+        }
+        all
+    }
+
+    // Where the places of a profile lie in the source picture.
+    pub fn places_in_source(self, places: [SourcePixel; 7]) -> [Option<SourcePixel>; 7]
+        ensures { (i : ℕ) (p : SourcePixel) (q : Option SourcePixel) → i < 7 →
+            slice_index_or result i q ≡ rectified_to_source self (slice_index_or places i p) }
+    {
+        if let LensDistortion::Fisheye { .. } = self.distortion {
+            return self.places_through_fisheye(places);
+        }
+        let mut all = [None; 7];
+        for k in 0..7usize {
+            all[k] = self.place_in_source(places[k]);
+        }
+        all
     }
 
     // Where a rectified place lies in the source picture: `Lens` for a camera that is not valid, then

@@ -7,18 +7,14 @@ use mathlib.Core.Bool.{Bool, true, false, not, ◌&&◌, ◌||◌, and-false, tr
 use lib.Ieee.{Float, of_bits}
 use borrow.Author.Tests.{not-true, not-false}
 use Rattle.prelude.proofs.Tests.{both}
-use Rattle.prelude.specs.Prelude.{when◌then◌else◌}
 use Rattle.ieee.specs.Parts.{is_finite}
 use Rattle.ieee.specs.Floats.{◌≺◌, ◌≼◌, f0, float}
 use Rattle.ieee.proofs.Order.{not_more, else_more, amid_finite}
 use Rattle.ieee_whole.proofs.WholeGuess.{float-finite}
-use Rattle.pixel.specs.declared.SourcePixel.{SourcePixel}
-use Rattle.std.specs.Prelude.{Option, Some, None, option_and_then}
-use Rattle.camera.specs.Camera.{if_finite}
 use Rattle.footprint.specs.declared.BorderMode.{BorderMode}
 use Rattle.footprint.specs.declared.BorderMode.TheVariants.{Reject}
 use Rattle.footprint.specs.declared.Footprint.TheVariants.{Rejected}
-use Rattle.footprint.specs.Footprints.{inside, outside, interior_cell, at_border, footprint, point_footprint}
+use Rattle.footprint.specs.Footprints.{inside, outside, interior_cell, at_border, footprint}
 
 -- ---- beyond the edges
 
@@ -92,15 +88,3 @@ module _ (w h : ℕ) (x y : Float) where
       go true ea true eb = off_outside w h Reject x y ea eb o
       go true ea false eb = off_y w h Reject x y ea eb
       go false ea b eb = off_x w h Reject x y ea
-
--- ---- the place through a camera
-
--- a place that is not finite has no footprint
-pub if_finite_footprint : (w h : ℕ) (place : Option SourcePixel) → point_footprint w h place ≡ point_footprint w h (option_and_then if_finite place)
-if_finite_footprint w h None = refl
-if_finite_footprint w h (Some q) = go (is_finite q.0) refl (is_finite q.1) refl
-  where
-    go : (a : Bool) → is_finite q.0 ≡ a → (b : Bool) → is_finite q.1 ≡ b → footprint w h Reject q.0 q.1 ≡ point_footprint w h (when a && b then Some q else None)
-    go true ea true eb = refl
-    go true ea false eb = sym (off_y w h Reject q.0 q.1 ea eb)
-    go false ea b eb = sym (off_x w h Reject q.0 q.1 ea)

@@ -61,9 +61,13 @@ abbrev pub point_footprint : ℕ → ℕ → Option SourcePixel → Footprint
 point_footprint w h (Some q) = footprint w h Reject q.0 q.1
 point_footprint w h None = Rejected
 
+-- where a place lies in the photograph: through the camera, where there is one
+abbrev pub seen : View → SourcePixel → Option SourcePixel
+seen None q = Some q
+seen (Some c) q = rectified_to_source c q
+
 abbrev pub viewed_footprint : ℕ → ℕ → View → SourcePixel → Footprint
-viewed_footprint w h None q = footprint w h Reject q.0 q.1
-viewed_footprint w h (Some c) q = point_footprint w h (rectified_to_source c q)
+viewed_footprint w h v q = point_footprint w h (seen v q)
 
 abbrev pub scene_footprint : Scene → SourcePixel → Footprint
 scene_footprint s q = viewed_footprint s.width s.height s.view q

@@ -1,11 +1,11 @@
 // sampling.rs and sample.rs: where a sample falls, worked out without the photograph.
 #![tactic(auto)]
 
-ghost use Rattle.std.specs.Prelude.{◌≡◌, ℕ, ◌+◌, ◌-◌, min, ◌&&◌, not, true, IfSome};
+ghost use Rattle.std.specs.Prelude.{◌≡◌, ℕ, ◌+◌, ◌-◌, ◌<◌, min, ◌&&◌, not, true, Option, Some, IfSome, slice_index_or};
 ghost use Rattle.ieee.specs.Parts.{is_finite};
 ghost use Rattle.ieee.specs.Floats.{◌≺◌, f0, float};
-ghost use Rattle.camera.specs.Camera.{rectified_to_source};
-ghost use Rattle.footprint.specs.Footprints.{inside, neighbour as neighbour_of, interior_cell, at_border, footprint as footprint_of, point_footprint, viewed_footprint, scene_footprint, good_view};
+ghost use Rattle.pixel.specs.declared.SourcePixel.{SourcePixel};
+ghost use Rattle.footprint.specs.Footprints.{inside, neighbour as neighbour_of, interior_cell, at_border, footprint as footprint_of, point_footprint, seen as seen_of, good_view};
 ghost use Rattle.footprint.specs.declared.BorderMode.TheVariants.{Reject};
 
 use camera::CameraCalibration;
@@ -176,41 +176,36 @@ pub fn footprint_at(width: u32, height: u32, border: BorderMode, x: f64, y: f64)
     size.at_border(border, p)
 }
 
-// A place seen through a camera. The camera's tests and steps stand here one by one: a call that takes the whole
-// camera at every sample made a refinement a quarter slower. Whether the result is finite its footprint tells.
-#[tactic(auto, using(crate::proofs::Footprints::if_finite_footprint))]
-fn through_camera(camera: CameraCalibration, p: SourcePixel) -> Option<SourcePixel>
-    ensures { (w h : ℕ) → point_footprint w h result ≡ point_footprint w h (rectified_to_source camera p) }
+// The places of a profile as they are, by an index, as `camera` fills its arrays.
+fn unmoved(places: [SourcePixel; 7]) -> [Option<SourcePixel>; 7]
+    ensures { (i : ℕ) (p : SourcePixel) (q : Option SourcePixel) → i < 7 →
+        slice_index_or result i q ≡ Some (slice_index_or places i p) }
 {
-    if !ieee::is_finite(p.0) || !ieee::is_finite(p.1) {
-        return None;
+    let mut all = [None; 7];
+    for k in 0..7usize {
+        all[k] = Some(places[k]);
     }
-    if camera.is_identity() {
-        return Some(p);
-    }
-    camera.project(p)
+    all
 }
 
-// A place in the photograph: through the camera, where there is one.
-fn through_view(view: View, p: SourcePixel) -> Option<SourcePixel>
-    ensures { (w h : ℕ) → point_footprint w h result ≡ viewed_footprint w h view p }
+// Where the places of a profile lie in the photograph.
+pub fn seen(view: View, places: [SourcePixel; 7]) -> [Option<SourcePixel>; 7]
+    ensures { (i : ℕ) (p : SourcePixel) (q : Option SourcePixel) → i < 7 →
+        slice_index_or result i q ≡ seen_of view (slice_index_or places i p) }
 {
     match view {
-        None => Some(p),
-        Some(camera) => through_camera(camera, p),
+        None => unmoved(places),
+        Some(camera) => camera.places_in_source(places),
     }
 }
 
-// Where a sample of the refinement falls: through the camera, where there is one, with the border
-// rejected. One call finds the footprint for every view, so that the compiler puts it in.
-pub fn source_footprint(scene: Scene, p: SourcePixel) -> Footprint
-    ensures { result ≡ scene_footprint scene p }
+// Where a sample of the refinement falls that is taken at a place of the photograph, or at none: with
+// the border rejected. One call finds the footprint for every view, so that the compiler puts it in.
+pub fn seen_footprint(width: u32, height: u32, at: Option<SourcePixel>) -> Footprint
+    ensures { result ≡ point_footprint width height at }
 {
-    let size = Size {
-        width: scene.width,
-        height: scene.height,
-    };
-    match through_view(scene.view, p) {
+    let size = Size { width, height };
+    match at {
         Some(q) => size.rejecting_footprint(q),
         None => Footprint::Rejected,
     }

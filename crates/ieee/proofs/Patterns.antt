@@ -4,13 +4,14 @@ use mathlib.Core.Bool.{Bool, true, false, not, ◌&&◌, cond}
 use Prim.Native.Nat.{ℕ, zero, suc, ◌+◌, ◌*◌, ◌/◌, ◌%◌, ◌^◌, ◌≤◌, ◌<◌}
 use native.Mathlib.Nat.{mod-lt, mod-eq_of_lt, not-le_of_lt}
 use native.Mathlib.Omega.{arith}
-use lib.Dec.{T, leb, ltb, eqb, leb→le, ltb→lt, lt→ltb, not_T, eqb→eq}
+use lib.Dec.{T, leb, ltb, eqb, leb→le, ltb→lt, not_T}
 use lib.IntN.{ℤ, pos}
 use lib.Pow.{pow_pos, mod-mod-pow}
 use lib.Bits.{bit_and, and_mask}
-use lib.Ieee.{Float, nan, inf, fin, binary64, up, down, odd, fits, of_fields, of_bits, to_bits, nan_bits, is_nan, ne, div}
+use lib.Ieee.{Float, nan, inf, fin, binary64, up, down, odd, fits, of_fields, of_bits, nan_bits, div}
 use lib.Ieee.Fits.{and_l, and_r}
 use lib.Ieee.Bits.{nan_bits_above, is_false}
+use Rattle.std.specs.Float.{float_is_finite}
 use Rattle.ieee.specs.Parts.{magnitude, is_finite}
 
 -- ---- a test's answer as a fact
@@ -20,13 +21,6 @@ yes h = subst T (sym h) tt
 
 pub no : {b : Bool} → b ≡ false → T (not b)
 no h = subst (λ (a : Bool). T (not a)) (sym h) tt
-
--- two tests that pass together are one
-pub same_test : (a b : Bool) → (T a → T b) → (T b → T a) → a ≡ b
-same_test true true f g = refl
-same_test true false f g = absurd (f tt)
-same_test false true f g = absurd (g tt)
-same_test false false f g = refl
 
 -- ---- NaN
 
@@ -89,36 +83,12 @@ magnitude-bits b =
     ∙ sym (magnitude-fields (leb (2 ^ 63) b) (a / 2 ^ 52) (b % 2 ^ 52))
     ∙ ap magnitude (sym (of_bits_is b))
 
-finite_odd : (d : ℕ) (s : Bool) (q k l : ℕ) → is_finite (odd d s q k l) ≡ true
-unfolding is_finite odd
-finite_odd d s zero k l = refl
-finite_odd d s (suc q) k l = refl
-
-finite_cond : (a b s : Bool) (q k : ℕ) → is_finite (cond a (cond b (inf s) nan) (odd 53 s q k 1074)) ≡ not a
-unfolding is_finite
-finite_cond true true s q k = refl
-finite_cond true false s q k = refl
-finite_cond false b s q k = finite_odd 53 s q k 1074
-
-finite-fields : (s : Bool) (x t : ℕ) → is_finite (of_fields binary64 s x t) ≡ not (eqb x 2047)
-unfolding of_fields
-finite-fields s zero t = finite_odd 53 s t 0 1074
-finite-fields s (suc x) t = finite_cond (eqb (suc x) 2047) (eqb t 0) s (2 ^ 52 + t) x
-
-pub finite-bits : (b : ℕ) → ltb (b % 2 ^ 63) 0x7ff0_0000_0000_0000 ≡ is_finite (of_bits binary64 b)
-finite-bits b =
-    let a = b % 2 ^ 63 in
-    let small : a < 2 ^ 63 = mod-lt b (pow_pos 63) in
-    same_test (ltb a 0x7ff0_0000_0000_0000) (not (eqb (a / 2 ^ 52) 2047))
-    (λ t. not_T (eqb (a / 2 ^ 52) 2047) (λ u. under a (ltb→lt a 0x7ff0_0000_0000_0000 t) (eqb→eq (a / 2 ^ 52) 2047 u)))
-    (λ t. lt→ltb a 0x7ff0_0000_0000_0000 (over a small (λ e. lib.Dec.T_not (eqb (a / 2 ^ 52) 2047) t (lib.Ieee.Fits.eq→eqb e))))
-    ∙ sym (ap is_finite (of_bits_is b) ∙ finite-fields (leb (2 ^ 63) b) (a / 2 ^ 52) (b % 2 ^ 52))
-  where
-    under : (a : ℕ) → a < 0x7ff0_0000_0000_0000 → a / 2 ^ 52 ≡ 2047 → ⊥
-    under a h e = omega arith
-
-    over : (a : ℕ) → a < 2 ^ 63 → (a / 2 ^ 52 ≡ 2047 → ⊥) → a < 0x7ff0_0000_0000_0000
-    over a h n = omega arith
+-- the library's test of finiteness is that of the definitions
+pub finite_is : (x : Float) → float_is_finite x ≡ is_finite x
+unfolding float_is_finite is_finite
+finite_is nan = refl
+finite_is (inf s) = refl
+finite_is (fin s m e) = refl
 
 -- ---- the values of the format
 

@@ -32,12 +32,12 @@ pub fn abs(x: f64) -> f64
     }
 }
 
-// Whether x is neither a NaN nor an infinity. The library's `f64::is_finite` takes a quarter longer
-// where the next step waits for its answer.
+// Whether x is neither a NaN nor an infinity.
+#[tactic(auto, using(crate::proofs::Patterns::finite_is))]
 pub fn is_finite(x: f64) -> bool
     ensures { result ≡ is_finite x }
 {
-    (bits_of(x) & 0x7fff_ffff_ffff_ffff) < 0x7ff0_0000_0000_0000
+    x.is_finite()
 }
 
 // Whether neither a nor b is a NaN or an infinity.

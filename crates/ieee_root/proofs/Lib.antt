@@ -12,7 +12,6 @@ pub mod RootLaws
 pub mod Counts
 pub mod Magnitudes
 pub mod Scaled
-pub mod Window
 pub mod Digits
 -- the definitions opened together
 pub mod Opened

@@ -4,8 +4,9 @@ use Prim.Native.Nat.{ℕ, zero, suc, ◌+◌, ◌-◌, ◌*◌, ◌/◌, ◌%◌
 use native.Mathlib.Nat.{mul_assoc, mul-le-mul_right}
 use native.Mathlib.Omega.{arith}
 use lib.Pow.{pow-add}
-use Rattle.ieee_root.specs.Root.{NearRoot}
-use Rattle.ieee_root.proofs.Roots.{near_low, near_high}
+use lib.Ieee.{binary64, of_bits}
+use Rattle.ieee_root.specs.Root.{root_units, NearRoot}
+use Rattle.ieee_root.proofs.Roots.{root-units, near_low, near_high, pattern_is}
 
 -- ---- m shifted by one place or none
 
@@ -59,3 +60,14 @@ module _ (m g a : ℕ) (S : Shifted m (g % 2) a) (G : 1022 ≤ g) (H : g < 3121)
 
   pub r-high : (r : ℕ) → NearRoot (a * 2 ^ 52) r → r < 2 ^ 53
   r-high r N = near_high (a * 2 ^ 52) r n-high N
+
+  -- the root's pattern
+  pub root_pattern : (r : ℕ) → NearRoot (a * 2 ^ 52) r → of_bits binary64 (k * 2 ^ 52 + r) ≡ root_units binary64 (m * 2 ^ g)
+  root_pattern r N = pattern_is r k (r-low r N) (r-high r N) (room k k-high) ∙ sym (root-units (a * 2 ^ 52) k r n-low n-lt N) ∙ ap (root_units binary64) scaled
+    where
+      room : (k : ℕ) → k < 1535 → k < 2046
+      room k h = omega arith
+
+-- a pattern with the root's exponent is the root's where its digits are
+pub split_pattern : (c g : ℕ) → 1022 ≤ g → c / 2 ^ 52 ≡ g / 2 - 25 → c ≡ (g / 2 - 26) * 2 ^ 52 + (2 ^ 52 + c % 2 ^ 52)
+split_pattern c g G e = omega arith

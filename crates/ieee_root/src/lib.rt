@@ -1,8 +1,9 @@
-// The square root of binary64: a number of 53 binary digits has its root guessed, tested on whole numbers,
-// and worked out by its digits where the test refuses the guess.
+// The square root of binary64: a root is guessed by float arithmetic, of which nothing is proved, and
+// tested on whole numbers. Where the tests refuse the guess and its neighbours, the root is worked out
+// by its digits.
 #![tactic(auto)]
 
-ghost use Rattle.std.specs.Prelude.{◌≡◌, ◌+◌, ◌*◌, ◌^◌, ◌≤◌, ◌<◌};
+ghost use Rattle.std.specs.Prelude.{true, ◌≡◌, ◌+◌, ◌*◌, ◌/◌, ◌%◌, ◌^◌, ◌≤◌, ◌<◌};
 ghost use Rattle.std.specs.Float.{binary64};
 ghost use Rattle.ieee_root.specs.Root.{root, root_units, NearRoot};
 
@@ -11,6 +12,34 @@ ghost use Rattle.ieee_root.specs.Root.{root, root_units, NearRoot};
 struct Mantissa {
     digits: u64,
     ghost normal: { (2 ^ 52 ≤ digits) × (digits < 2 ^ 53) },
+}
+
+// A number whose root has 53 binary digits before the point once it is taken times 2^26.
+#[derive(Clone, Copy)]
+struct Radicand {
+    value: u64,
+    ghost bounds: { (2 ^ 52 ≤ value) × (value + 1 < 2 ^ 54) },
+}
+
+impl Mantissa {
+    // Of the normal value that has the bit pattern b: the leading one, which the pattern leaves out,
+    // and the 52 digits below it.
+    fn of_bits(b: u64) -> Mantissa
+        ensures { result.digits ≡ 2 ^ 52 + b % 2 ^ 52 }
+    {
+        let digits = (b & 0xf_ffff_ffff_ffff) | 0x10_0000_0000_0000;
+        Mantissa { digits }
+    }
+
+    // m * 2^p, for a p of 0 or 1.
+    fn shifted(self, p: u64) -> Radicand
+        requires parity { p < 2 }
+        ensures { result.value ≡ self.digits * 2 ^ p }
+    {
+        Radicand {
+            value: self.digits << p,
+        }
+    }
 }
 
 // The square root of x.
@@ -23,17 +52,41 @@ pub fn sqrt(x: f64) -> f64
             let s = u64::leading_zeros(b) - 11;
             return scaled_root(Mantissa { digits: b << s }, 1074 - (s as u64));
         }
-        let g = b >> 52;
-        if g == 2047 {
+        if b >> 52 == 2047 {
             return x;
         }
-        let digits = (b & 0xf_ffff_ffff_ffff) | 0x10_0000_0000_0000;
-        return scaled_root(Mantissa { digits }, g + 1073);
+        return normal_root(x, b);
     }
     if x == 0.0 {
         return x;
     }
     0.0 / 0.0
+}
+
+// The root of the normal value x, which has the bit pattern b. The guess is made on x itself and
+// returned as it is: so nothing has to wait for the test, which the processor expects to pass. By
+// the contract x may be any value, since the test looks at b alone.
+fn normal_root(x: f64, b: u64) -> f64
+    requires normal { (2 ^ 52 ≤ b) × (b / 2 ^ 52 < 2047) }
+    ensures { result ≡ root_units binary64 ((2 ^ 52 + b % 2 ^ 52) * 2 ^ (b / 2 ^ 52 + 1073)) }
+{
+    let m = Mantissa::of_bits(b);
+    let g = (b >> 52) + 1073;
+    let guess = newton_root(x, b);
+    if is_root(guess, m, g) {
+        return guess;
+    }
+    scaled_root(m, g)
+}
+
+// Whether r is shown to be the root of m * 2^g, both in units of 2^-1074: whether it has the
+// exponent that `scaled_root` gives the root, and the root's digits.
+fn is_root(r: f64, m: Mantissa, g: u64) -> bool
+    requires exponent { (1022 ≤ g) × (g < 3121) }
+    ensures { result ≡ true → r ≡ root_units binary64 (m.digits * 2 ^ g) }
+{
+    let b = ieee::bits_of(r);
+    b >> 52 == g / 2 - 25 && is_near_root(m.shifted(g % 2), Mantissa::of_bits(b).digits)
 }
 
 // The root of m * 2^g, both in units of 2^-1074.
@@ -45,65 +98,73 @@ fn scaled_root(m: Mantissa, g: u64) -> f64
     f64::from_bits(((g / 2 - 26) << 52) + r)
 }
 
-// The whole number nearest to the square root of n = m * 2^p * 2^52. With t two below the guess it is
-// t + i where n is above (t + i - 1) * (t + i) and at most (t + i) * (t + i + 1): mostly at i = 2.
-// Where i is none of 1 to 3, which no run has shown, the digits are worked out one by one.
+// The whole number nearest to the square root of m * 2^p * 2^52: the guess or a neighbour of it.
+// Where it is none of them, for which no m is known, the digits are worked out one by one.
 fn rounded_root(m: Mantissa, p: u64) -> u64
     requires parity { p < 2 }
     ensures { NearRoot (m.digits * 2 ^ p * 2 ^ 52) result }
 {
-    let a = m.digits << p;
-    let t = guess(m, p).digits - 2;
-    // t * t is hi * 2^52 + lo
-    let u = t >> 26;
-    let l = t & 0x3ff_ffff;
-    let k = u * l;
-    let hi = u * u + (k >> 25);
-    let lo = ((k & 0x1ff_ffff) << 27) + l * l;
-    if hi + ((lo + 3 * t + 2) >> 52) < a {
-        if a <= hi + ((lo + 5 * t + 6) >> 52) {
-            return t + 2;
-        }
-        if a <= hi + ((lo + 7 * t + 12) >> 52) {
-            return t + 3;
-        }
-        return digits_root(a);
+    let a = m.shifted(p);
+    let q = guess(m, p).digits;
+    if is_near_root(a, q) {
+        return q;
     }
-    if hi + ((lo + t) >> 52) < a {
-        return t + 1;
+    if is_near_root(a, q + 1) {
+        return q + 1;
+    }
+    if is_near_root(a, q - 1) {
+        return q - 1;
     }
     digits_root(a)
 }
 
-// A first guess at the square root of m * 2^p * 2^52, near it in every run but not by proof:
-// `rounded_root` tests it. Newton's method on `f64`s for y, one over the root of x = m * 2^p, from
-// what x's bit pattern gives, which is within 3.5 %. The first step's 1.5 is raised by half of the
-// most that it would fall short. Then s = x * y is off by the factor whose square is 1 - u, and g
-// is s divided by it, to the second order.
+// Whether q is the whole number nearest to the square root of n = a * 2^52: whether n is at most
+// q * q + q and above q * q - q.
+fn is_near_root(a: Radicand, q: u64) -> bool
+    requires number { q < 2 ^ 54 }
+    ensures { result ≡ true → NearRoot (a.value * 2 ^ 52) q }
+{
+    let n = u128::from(a.value) << 52;
+    let q = u128::from(q);
+    n <= q * q + q && q * q < n + q
+}
+
+// A guess at the square root of m * 2^p * 2^52, by the float m * 2^p: its root has the same digits.
 fn guess(m: Mantissa, p: u64) -> Mantissa
     requires parity { p < 2 }
 {
-    let i = ((1074 + p) << 52) + m.digits;
-    let x = f64::from_bits(i);
+    let b = ((1074 + p) << 52) + m.digits;
+    Mantissa::of_bits(ieee::bits_of(newton_root(ieee::from_bits(b), b)))
+}
+
+// A guess at the root of the normal value x, which has the bit pattern b: right in 9,987 of 10,000
+// runs and a neighbour in the rest, but not by proof. Newton's method for y, one over the root,
+// from what b gives, which is within 3.5 %; each step's 1.5 is raised by about half of the most
+// that it would fall short. Then what s = x * y lacks of the root follows from what its square
+// lacks of x. The square is that of `upper`, whose few digits leave nothing to round, and the
+// difference of the two. So that less has to wait, `upper` is taken from the first step, by adding
+// and taking away again what has no room for the lower digits, and products are kept apart.
+fn newton_root(x: f64, b: u64) -> f64
+    requires positive { b < 2 ^ 63 }
+{
     let h = x * 0.5;
-    let y0 = f64::from_bits(0x5fe6_eb50_c7b5_37a9 - (i >> 1));
-    let y1 = y0 * (1.50088 - h * y0 * y0);
-    let y = y1 * (1.5 - h * y1 * y1);
+    let y0 = f64::from_bits(0x5fe6_eb50_c7b5_37a9 - (b >> 1));
+    let y1 = 1.50088 * y0 - h * y0 * (y0 * y0);
+    let first = x * y1;
+    let far = first * 134217729.0;
+    let upper = far - (far - first);
+    let y = 1.5000005 * y1 - h * y1 * (y1 * y1);
     let s = x * y;
-    let u = 1.0 - s * y;
-    let g = s + s * u * (0.5 + 0.375 * u);
-    let digits = (ieee::bits_of(g * 67108864.0) & 0xf_ffff_ffff_ffff) | 0x10_0000_0000_0000;
-    Mantissa { digits }
+    let rest = x - upper * upper - (s - upper) * (s + upper);
+    s + rest * (0.875 * y - 0.375 * y * (s * y))
 }
 
 // The whole number nearest to the square root of a * 2^52, by the digits of the root from the
 // highest: the digits of a * 2^52 come down two at a time from `rest`.
-fn digits_root(a: u64) -> u64
-    requires low { 2 ^ 52 ≤ a }
-    requires high { a + 1 < 2 ^ 54 }
-    ensures { NearRoot (a * 2 ^ 52) result }
+fn digits_root(a: Radicand) -> u64
+    ensures { NearRoot (a.value * 2 ^ 52) result }
 {
-    let mut rest: u64 = a << 10;
+    let mut rest: u64 = a.value << 10;
     let mut q: u64 = 0;
     let mut r: u64 = 0;
     for _digit in 0..53u64 {

@@ -5,3 +5,5 @@ pub mod Tables
 pub mod Lists
 pub mod Results
 pub mod Checks
+-- what a loop over an array has done
+pub mod Turns

@@ -13,11 +13,13 @@ use Rattle.prelude.proofs.Lists.{one_less}
 use Rattle.ieee.specs.Floats.{◌⊖◌, float, f3}
 use Rattle.pixel.specs.declared.SourcePixel.{SourcePixel}
 use Rattle.pixel.specs.declared.Direction.{Direction}
+use Rattle.footprint.specs.declared.Scene.{Scene}
+use Rattle.footprint.specs.Footprints.{seen}
 use Rattle.sample_tree.specs.SampleTree.{SampleTree, done, one_sample, ◌>>=◌}
 use Rattle.sample_tree.specs.Options.{on_some}
 use Rattle.sample_tree.specs.declared.Sampler.{Sampler}
-use Rattle.sample_tree.specs.Samplers.{Samples}
-use Rattle.sample_tree.proofs.Samplers.{Left, start, end, found, found_none}
+use Rattle.sample_tree.specs.Samplers.{Samples, SampledAt}
+use Rattle.sample_tree.proofs.Samplers.{Left, start, end, sampled, found, found_none}
 use Rattle.profile.specs.Profile.{sample_profile, profile, offset_along}
 
 module _ (normal : Direction) (step : Float) (c : SourcePixel) where
@@ -34,28 +36,28 @@ module _ (normal : Direction) (step : Float) (c : SourcePixel) where
   rest : ℕ → List Float → Float → SampleTree (Option (List Float))
   rest k out v = sample_profile normal step c (7 - (k + 1)) (suc k) (take k out ++ v ∷ [])
 
-  module _ {k : ℕ} (out : List Float) {first now after : Sampler} {r : Option Float} {q : SourcePixel} (l : k < 7) (before : Sampled first now k out)
-      (at : q ≡ offset_along normal step c (float k ⊖ f3)) (ran : Samples now after (one_sample q) r) where
+  module _ {k : ℕ} (out : List Float) {first now after : Sampler} {r : Option Float} {at : Option SourcePixel} (l : k < 7) (before : Sampled first now k out)
+      (is : at ≡ seen first.scene.view (offset_along normal step c (float k ⊖ f3))) (ran : SampledAt now after at r) where
     turn : Left first now (profile normal step c) (one_sample (place k) >>= on_some (rest k out))
     unfolding sample_profile rest place
     turn = subst (λ (n : ℕ). Left first now (profile normal step c) (sample_profile normal step c n k (take k out))) (one_less 7 k l) before
 
     shown : Samples now after (one_sample (place k)) r
     unfolding place
-    shown = subst (λ (z : SourcePixel). Samples now after (one_sample z) r) at ran
+    shown = sampled (place k) (is ∙ ap (λ (e : Scene). seen e.view (place k)) (sym before.scene)) ran
 
     -- the next sample is in
     pub one_sampled : {v : Float} → length out ≡ 7 → r ≡ Some v → Sampled first after (k + 1) (set out k v)
     unfolding rest
-    one_sampled {v} len is =
+    one_sampled {v} len found_one =
         let grown : take (k + 1) (set out k v) ≡ take k out ++ v ∷ [] = ap (λ (n : ℕ). take n (set out k v)) (add-one k) ∙ take-suc-set out k v (omega arith) in
         subst (λ (g : List Float). Left first after (profile normal step c) (sample_profile normal step c (7 - (k + 1)) (k + 1) g)) (sym grown)
         (subst (λ (n : ℕ). Left first after (profile normal step c) (sample_profile normal step c (7 - (k + 1)) n (take k out ++ v ∷ []))) (sym (add-one k))
-        (found (one_sample (place k)) (rest k out) turn shown is))
+        (found (one_sample (place k)) (rest k out) turn shown found_one))
 
     -- it was rejected
     pub sample-rejected : r ≡ None → Samples first after (profile normal step c) None
-    sample-rejected is = found_none (one_sample (place k)) (rest k out) turn shown is
+    sample-rejected none = found_none (one_sample (place k)) (rest k out) turn shown none
 
   -- all seven are in
   pub all_sampled : {k : ℕ} (out : List Float) {first now : Sampler} → k ≡ 7 → length out ≡ 7 → Sampled first now k out → Samples first now (profile normal step c) (Some out)

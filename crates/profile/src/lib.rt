@@ -2,7 +2,9 @@
 // passes, and where those tend.
 #![tactic(auto)]
 
-ghost use Rattle.std.specs.Prelude.{◌≡◌};
+ghost use Rattle.std.specs.Prelude.{◌≡◌, ◌<◌, ℕ, slice_index_or};
+ghost use Rattle.ieee.specs.Floats.{◌⊖◌, float, f3};
+ghost use Rattle.pixel.specs.declared.SourcePixel.{SourcePixel};
 ghost use Rattle.sample_tree.specs.Samplers.{Samples};
 ghost use Rattle.profile.specs.Profile.{localize as localized, offset_along};
 
@@ -39,6 +41,18 @@ fn offset_along(normal: Direction, step: f64, c: SourcePixel, offset: f64) -> So
     )
 }
 
+// The places of the seven samples around c, by an index, as `camera` fills its arrays.
+fn places(normal: Direction, step: f64, c: SourcePixel) -> [SourcePixel; 7]
+    ensures { (i : ℕ) (p : SourcePixel) → i < 7 →
+        slice_index_or result i p ≡ offset_along normal step c (float i ⊖ f3) }
+{
+    let mut all = [c; 7];
+    for k in 0..SAMPLES {
+        all[k as usize] = offset_along(normal, step, c, k as f64 - 3.0);
+    }
+    all
+}
+
 // ---- three passes
 
 // An edge point by three passes of seven samples, each around the point that the one before found.
@@ -59,9 +73,9 @@ fn localize_by(sampler: &mut Sampler, settings: Settings, ray: Ray) -> Option<Ed
     'passes: {
         for pass in 0..PASSES {
             let center = point.pos;
+            let seen = footprint::seen(sampler.scene.view, places(normal, step, center));
             for k in 0..SAMPLES {
-                let p = offset_along(normal, step, center, k as f64 - 3.0);
-                let Some(v) = sampler.sample(p) else {
+                let Some(v) = sampler.sample(seen[k as usize]) else {
                     break 'passes;
                 };
                 samples[k as usize] = v;

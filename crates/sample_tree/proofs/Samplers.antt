@@ -3,13 +3,17 @@
 use mathlib.Core.Path.{◌≡◌, refl, ◌∙◌, subst}
 use Rattle.std.specs.Prelude.{Option, None, Some}
 use Rattle.std.specs.Prelude.{Result, Ok, Err}
-use Rattle.photograph.specs.Photographs.{photo}
-use Rattle.sample_tree.specs.SampleTree.{SampleTree, done, value, ◌>>=◌}
+use lib.Ieee.{Float}
+use Rattle.pixel.specs.declared.SourcePixel.{SourcePixel}
+use Rattle.photograph.specs.Photographs.{photo, photo_of}
+use Rattle.footprint.specs.Footprints.{point_footprint, seen}
+use Rattle.sampling.specs.Marks.{buffers, ReadsSample}
+use Rattle.sample_tree.specs.SampleTree.{SampleTree, done, one_sample, value, ◌>>=◌}
 use Rattle.sample_tree.specs.Options.{on_some}
 use Rattle.sample_tree.specs.Results.{on_ok}
 use Rattle.sample_tree.specs.Run.{Handler, State, Runs}
 use Rattle.sample_tree.specs.declared.Sampler.{Sampler}
-use Rattle.sample_tree.specs.Samplers.{sampler_of, state_of, Samples}
+use Rattle.sample_tree.specs.Samplers.{sampler_of, state_of, Samples, SampledAt}
 use Rattle.sample_tree.proofs.Meaning.{ran-value}
 use Rattle.sample_tree.proofs.Steps as steps
 use Rattle.sample_tree.proofs.Steps.{Leads}
@@ -58,6 +62,18 @@ module _ {A : Type 0} {first now : Sampler} {t : SampleTree A} where
           (steps.called _ u f
           (subst (λ (ask : Handler State). Runs ask u r (state_of now) (state_of after)) (same_sampler first now left.photograph left.scene) ran.runs));
     }
+
+-- a sample at the place where q is seen is one at q
+pub sampled : {before after : Sampler} (q : SourcePixel) {at : Option SourcePixel} {r : Option Float} → at ≡ seen before.scene.view q → SampledAt before after at r → Samples before after (one_sample q) r
+sampled {before} {after} q {at} {r} is ran = record {
+  photograph = ran.photograph;
+  scene = ran.scene;
+  sheet = ran.sheet;
+  copy = ran.copy;
+  runs = steps.shown before.scene (photo_of before.photograph) q
+      (subst (λ (z : Option SourcePixel). ReadsSample (photo_of before.photograph) before.scene.width (point_footprint before.scene.width before.scene.height z) r
+      (buffers before.sheet.now before.copy.now) (buffers after.sheet.now after.copy.now)) is ran.reads) ran.counted;
+}
 
 -- a first step that found something, and one that found nothing
 module _ {A B : Type 0} {first now after : Sampler} {t : SampleTree (Option A)} {r : Option B} (u : SampleTree (Option B)) (f : B → SampleTree (Option A))

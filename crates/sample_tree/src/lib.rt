@@ -3,8 +3,7 @@
 
 ghost use Rattle.std.specs.Prelude.{◌≡◌};
 ghost use Rattle.sample_tree.specs.Meters.{increment};
-ghost use Rattle.sample_tree.specs.SampleTree.{one_sample};
-ghost use Rattle.sample_tree.specs.Samplers.{Samples};
+ghost use Rattle.sample_tree.specs.Samplers.{SampledAt};
 
 use footprint::Scene;
 use photograph::Photograph;
@@ -39,11 +38,18 @@ impl Meter {
 }
 
 impl<'a> Sampler<'a> {
-    // A sample in the scene, its pixels marked and copied.
-    pub fn sample(&mut self, p: SourcePixel) -> Option<f64>
-        ensures { Samples self.old self.new (one_sample p) result }
+    // A sample at a place of the photograph, or at none, its pixels marked and copied.
+    pub fn sample(&mut self, at: Option<SourcePixel>) -> Option<f64>
+        ensures { SampledAt self.old self.new at result }
     {
-        let shown = sampling::sample_at(self.photograph, self.scene, self.sheet, self.copy, p);
+        let shown = sampling::sample_at(
+            self.photograph,
+            self.scene.width,
+            self.scene.height,
+            self.sheet,
+            self.copy,
+            at,
+        );
         self.meter = self.meter.incremented();
         shown
     }

@@ -2,13 +2,15 @@
 use Prim.Native.Nat.{ℕ, ◌^◌, ◌<◌}
 use native.Mathlib.Omega.{arith}
 use lib.Ieee.{Float}
+use Rattle.std.specs.Prelude.{Option, None, Some}
 use Rattle.prelude.proofs.Lists.{Each}
 use Rattle.pixel.specs.declared.SourcePixel.{SourcePixel}
 use Rattle.footprint.specs.declared.BorderMode.{BorderMode}
+use Rattle.footprint.specs.declared.BorderMode.TheVariants.{Reject}
 use Rattle.footprint.specs.declared.Footprint.TheVariants.{Rejected, Border, Cell}
 use Rattle.footprint.specs.declared.Footprint.{Footprint}
 use Rattle.footprint.specs.declared.Scene.{Scene}
-use Rattle.footprint.specs.Footprints.{footprint, scene_footprint}
+use Rattle.footprint.specs.Footprints.{footprint, point_footprint, scene_footprint}
 use Rattle.sampling.specs.Sampling.{pixels_read, Ordered}
 use Rattle.photograph.proofs.Pixels.{Inside}
 use Rattle.photograph.proofs.Photographs.{Sized}
@@ -39,9 +41,10 @@ cut_inside w h size (Cell x0 y0 x1 y1 fx fy) c = (
 pub footprint_ordered : (w h : ℕ) → w < 2 ^ 32 → h < 2 ^ 32 → (b : BorderMode) (x y : Float) → Ordered (footprint w h b x y)
 footprint_ordered w h wide high b x y = cut_ordered w h (footprint w h b x y) (footprint_cut w h wide high b x y)
 
-module _ (e : Scene) where
-  pub scene_ordered : e.width < 2 ^ 32 → e.height < 2 ^ 32 → (q : SourcePixel) → Ordered (scene_footprint e q)
-  scene_ordered wide high q = cut_ordered e.width e.height (scene_footprint e q) (viewed_cut e.width e.height wide high e.view q)
+pub point_ordered : (w h : ℕ) → w < 2 ^ 32 → h < 2 ^ 32 → (at : Option SourcePixel) → Ordered (point_footprint w h at)
+point_ordered w h wide high None = tt
+point_ordered w h wide high (Some q) = footprint_ordered w h wide high Reject q.0 q.1
 
+module _ (e : Scene) where
   pub scene_inside : Sized e.width e.height → (q : SourcePixel) → Each (Inside e.width e.height) (pixels_read (scene_footprint e q))
   scene_inside size q = cut_inside e.width e.height size (scene_footprint e q) (viewed_cut e.width e.height (omega arith) (omega arith) e.view q)

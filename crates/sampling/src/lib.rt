@@ -4,11 +4,11 @@
 
 ghost use Rattle.std.specs.Prelude.{◌≡◌, ◌+◌, ◌*◌, ◌<◌, ◌≤◌, length};
 ghost use Rattle.photograph.specs.Photographs.{photo_of};
-ghost use Rattle.footprint.specs.Footprints.{scene_footprint};
+ghost use Rattle.footprint.specs.Footprints.{point_footprint};
 ghost use Rattle.sampling.specs.Sampling.{cell_of, bilinear, Ordered, sample_bilinear};
 ghost use Rattle.sampling.specs.Marks.{buffers, written, cell_marked, ReadsSample};
 
-use footprint::{BorderMode, Footprint, Scene};
+use footprint::{BorderMode, Footprint};
 use number::Refusal;
 use photograph::Photograph;
 use pixel::SourcePixel;
@@ -151,20 +151,22 @@ fn read_sample(
     }
 }
 
-// A sample of the refinement, its pixels marked and copied.
+// A sample of the refinement at a place of the photograph, or at none, its pixels marked and copied.
+// Width and height go side by side, as `photograph` says.
 pub fn sample_at(
     photograph: Photograph,
-    scene: Scene,
+    width: u32,
+    height: u32,
     sheet: &mut [u8],
     copy: &mut [u8],
-    p: SourcePixel,
+    at: Option<SourcePixel>,
 ) -> Option<f64>
-    ensures { ReadsSample (photo_of photograph.entry) scene.width
-        (scene_footprint scene p) result
+    ensures { ReadsSample (photo_of photograph.entry) width
+        (point_footprint width height at) result
         (buffers sheet.old copy.old) (buffers sheet.new copy.new) }
 {
-    let footprint = footprint::source_footprint(scene, p);
-    read_sample(photograph, scene.width, sheet, copy, footprint)
+    let footprint = footprint::seen_footprint(width, height, at);
+    read_sample(photograph, width, sheet, copy, footprint)
 }
 
 // ---- the public call

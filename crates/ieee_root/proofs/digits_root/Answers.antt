@@ -23,7 +23,7 @@ overflow_add-t c = let h = small (goal.at.overflow_add-t c).In-loop-digit in ome
 
 pub loop-digit-preserved : goal.loop-digit-preserved
 loop-digit-preserved c =
-    let a = c.args.a in
+    let a = c.args.a.value in
     let l = c.loop-digit in
     let t = c.loop-digit-test.true in
     elim c.if-d-t.branch [

@@ -4,4 +4,4 @@ use Rattle.ieee_root.proofs.Digits.{Down}
 use Rattle.ieee_root.proofs.digits_root.Given as goal
 
 abbrev pub invariant-loop-digit : goal.invariant-loop-digit
-invariant-loop-digit l = Down (l.a * 1024) l._digit l.q l.r l.rest
+invariant-loop-digit l = Down (l.fn.a.value * 1024) l._digit l.q l.r l.rest

@@ -5,8 +5,7 @@ use native.Mathlib.Omega.{arith}
 use lib.Ieee.{binary64, of_bits}
 use Rattle.ieee_root.specs.Root.{root_units, NearRoot}
 use Rattle.ieee.proofs.Patterns.{no_nan_small}
-use Rattle.ieee_root.proofs.Roots.{root-units, pattern_is}
-use Rattle.ieee_root.proofs.Scaled.{Shifted, shifted, n-low, n-lt, k-high, scaled, r-low, r-high}
+use Rattle.ieee_root.proofs.Scaled.{Shifted, shifted, k-high, r-high, root_pattern}
 use Rattle.ieee_root.proofs.scaled_root.Goals as goal
 use Rattle.ieee_root.proofs.scaled_root.Goals.{Start}
 
@@ -33,14 +32,7 @@ module _ (m g a r : ℕ) (S : Shifted m (g % 2) a) (G : 1022 ≤ g) (H : g < 312
       go k h l = omega arith
 
   result : of_bits binary64 (k * 2 ^ 52 % 2 ^ 64 + r) ≡ root_units binary64 (m * 2 ^ g)
-  result =
-      ap (λ (z : ℕ). of_bits binary64 (z + r)) sum_is
-      ∙ pattern_is r k (r-low m g a S G H r N) (r-high m g a S G H r N) (go k k_lt)
-      ∙ sym (root-units (a * 2 ^ 52) k r (n-low m g a S G H) (n-lt m g a S G H) N)
-      ∙ ap (root_units binary64) (scaled m g a S G H)
-    where
-      go : (k : ℕ) → k < 1535 → k < 2046
-      go k h = omega arith
+  result = ap (λ (z : ℕ). of_bits binary64 (z + r)) sum_is ∙ root_pattern m g a S G H r N
 
 -- m << (g % 2), which the call works on
 abbrev a : Start → ℕ

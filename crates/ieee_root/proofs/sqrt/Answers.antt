@@ -8,9 +8,9 @@ use lib.Ieee.{Float, binary64, fits, to_bits, lt, eq}
 use lib.Ieee.Positive.{above}
 use Rattle.ieee_root.specs.Root.{root, root_units}
 use Rattle.ieee.proofs.Patterns.{yes, zero_is, zero_by_zero}
-use Rattle.ieee_root.proofs.Inputs.{above_zero, root_zero, root_none, small_root, infinite_root, normal_root, digits_are, Lifted, lifted, lifted_same}
+use Rattle.ieee_root.proofs.Inputs.{above_zero, root_zero, root_none, small_root, infinite_root, normal_root, Lifted, lifted, lifted_same}
 use Rattle.ieee_root.proofs.sqrt.Goals as goal
-use Rattle.ieee_root.proofs.sqrt.Goals.{Else-g-eq2047, Start, Then-b-lt4503599627370496, Then-x}
+use Rattle.ieee_root.proofs.sqrt.Goals.{Else-b-eq2047, Start, Then-b-lt4503599627370496, Then-x}
 
 abbrev x : Start → Float
 x c = c.args.x
@@ -34,11 +34,11 @@ lift c = lifted (b c.before.before) (small c).0 c.if-b-lt4503599627370496.true
 
 -- ---- a normal value
 
-large : (c : Else-g-eq2047) → (b c.before.before.before / 2 ^ 52 < 2047)
+large : (c : Else-b-eq2047) → (b c.before.before.before / 2 ^ 52 < 2047)
     × (root binary64 (x c.before.before.before) ≡ root_units binary64 ((2 ^ 52 + b c.before.before.before % 2 ^ 52) * 2 ^ (b c.before.before.before / 2 ^ 52 + 1073)))
 large c =
     let d = c.before.before in
-    normal_root (x d.before) (held d.before) (over d) c.if-b-lt4503599627370496.false c.if-g-eq2047.false
+    normal_root (x d.before) (held d.before) (over d) c.if-b-lt4503599627370496.false c.if-b-eq2047.false
 
 -- ---- the answers
 
@@ -67,23 +67,18 @@ returns-then-b-lt4503599627370496 c =
     ∙ ap (root_units binary64) (lifted_same y s l.0)
     ∙ sym (small d).1
 
-pub returns-then-g-eq2047 : goal.returns-then-g-eq2047
-returns-then-g-eq2047 c =
-    let d = (goal.at.returns-then-g-eq2047 c).Then-x in
-    infinite_root (x (goal.at.returns-then-g-eq2047 c).Start) (held (goal.at.returns-then-g-eq2047 c).Start) (over d) c.if-g-eq2047.true
+pub returns-then-b-eq2047 : goal.returns-then-b-eq2047
+returns-then-b-eq2047 c =
+    let d = (goal.at.returns-then-b-eq2047 c).Then-x in
+    infinite_root (x (goal.at.returns-then-b-eq2047 c).Start) (held (goal.at.returns-then-b-eq2047 c).Start) (over d) c.if-b-eq2047.true
 
-pub overflow_add-g : goal.overflow_add-g
-overflow_add-g c = let h = (large (goal.at.overflow_add-g c).Else-g-eq2047).0 in omega arith
-
-pub scaled_root-requires-then-x : goal.scaled_root-requires-then-x
-scaled_root-requires-then-x c =
-    let h = (large (goal.at.scaled_root-requires-then-x c).Else-g-eq2047).0 in
-    record { exponent = (omega arith, omega arith) }
+pub normal_root-requires : goal.normal_root-requires
+normal_root-requires c =
+    let d = (goal.at.normal_root-requires c).Else-b-eq2047 in
+    record { normal = (d.before.if-b-lt4503599627370496.false, (large d).0) }
 
 pub returns-then-x : goal.returns-then-x
-returns-then-x c =
-    let y = b (goal.at.returns-then-x c).Start in
-    c.scaled_root-then-x.ensures ∙ ap (λ (m : ℕ). root_units binary64 (m * 2 ^ (y / 2 ^ 52 + 1073))) (digits_are y) ∙ sym (large (goal.at.returns-then-x c).Else-g-eq2047).1
+returns-then-x c = c.normal_root.ensures ∙ sym (large (goal.at.returns-then-x c).Else-b-eq2047).1
 
 pub returns-then-x-2 : goal.returns-then-x-2
 returns-then-x-2 c = root_zero (x (goal.at.returns-then-x-2 c).Start) (ap (eq (x (goal.at.returns-then-x-2 c).Start)) (sym zero_is) ∙ c.if-x-2.true)

@@ -1,6 +1,5 @@
 -- `Sampler::sample` meets its contract: what the sample shows and marks, and the count, are what its callees ensure. Assumes nothing.
 use mathlib.Core.Path.{refl}
-use Rattle.sample_tree.proofs.Steps.{shown}
 use Rattle.sample_tree.proofs.Sampler.sample.Goals as goal
 
 pub returns : goal.returns
@@ -9,5 +8,6 @@ returns c = record {
   scene = refl;
   sheet = refl;
   copy = refl;
-  runs = shown _ _ _ c.sample_at-shown.ensures c.incremented-self.ensures;
+  reads = c.sample_at-shown.ensures;
+  counted = c.incremented-self.ensures;
 }

@@ -1,0 +1,23 @@
+-- `CameraCalibration::places_through_fisheye` meets its contract: a turn puts one more place in. Assumes nothing.
+use Rattle.std.proofs.Common.{rules}
+use mathlib.Core.Path.{◌≡◌}
+use lib.ListN.{length, length-set}
+use native.Mathlib.Omega.{arith}
+use Rattle.std.specs.Prelude.{Option}
+use Rattle.pixel.specs.declared.SourcePixel.{SourcePixel}
+use Rattle.camera.specs.Camera.{rectified_to_source}
+use Rattle.camera.specs.Together.{IsFisheye}
+use Rattle.prelude.proofs.Turns.{one_done}
+use Rattle.camera.proofs.CameraCalibration.places_through_fisheye.Goals as goal
+
+pub through_fisheye-requires-clause-bearing : goal.through_fisheye-requires-clause-bearing
+through_fisheye-requires-clause-bearing c = c.bearings-bearings.ensures _ _ _ c.loop-k-test.true
+
+pub loop-k-preserved : goal.loop-k-preserved
+loop-k-preserved c =
+    let inv = c.loop-k.invariant in
+    let len : length c.args.places ≡ 7 = search rules in (
+      simp length-set inv.0,
+      one_done (λ (p : SourcePixel) (q : Option SourcePixel). IsFisheye c.args.self.distortion → q ≡ rectified_to_source c.args.self p) c.loop-k.k c.args.places c.loop-k.all _ (omega arith) (omega arith) inv.1
+          c.through_fisheye.ensures,
+    )
