@@ -11,17 +11,17 @@ use crate::Normalized;
 
 // A place on the picture plane, with its distance from the axis.
 #[derive(Clone, Copy)]
-pub struct Bearing {
-    pub x: f64,
-    pub y: f64,
-    pub r: f64,
+pub(crate) struct Bearing {
+    pub(crate) x: f64,
+    pub(crate) y: f64,
+    pub(crate) r: f64,
     ghost distance: { r ≡ root binary64 (x ⊗ x ⊕ y ⊗ y) },
 }
 
 impl Bearing {
     // Of a place.
     #[inline(always)]
-    pub fn of(p: Normalized) -> Bearing
+    pub(crate) fn of(p: Normalized) -> Bearing
         ensures { (result.x ≡ p.0) × (result.y ≡ p.1) }
     {
         let r = ieee_root::sqrt(p.0 * p.0 + p.1 * p.1);
@@ -31,7 +31,7 @@ impl Bearing {
     // Where the fisheye sends the place, which lies at the angle theta to the axis: nowhere if its
     // distance is not finite, or if the polynomial of its angle is not above 0.
     #[tactic(auto, unfolding(crate::specs::Camera::fisheye))]
-    pub fn bent(self, k1: f64, k2: f64, k3: f64, k4: f64, theta: f64) -> Option<Normalized>
+    pub(crate) fn bent(self, k1: f64, k2: f64, k3: f64, k4: f64, theta: f64) -> Option<Normalized>
         requires angle { theta ≡ arctangent self.r }
         ensures { result ≡ fisheye k1 k2 k3 k4 self.x self.y }
     {
@@ -54,7 +54,7 @@ impl Bearing {
 // Where a fisheye sends a place on the picture plane, if anywhere. It stays a call, so that whoever
 // samples through another lens is no slower.
 #[inline(never)]
-pub fn bent(k1: f64, k2: f64, k3: f64, k4: f64, p: Normalized) -> Option<Normalized>
+pub(crate) fn bent(k1: f64, k2: f64, k3: f64, k4: f64, p: Normalized) -> Option<Normalized>
     ensures { result ≡ fisheye k1 k2 k3 k4 p.0 p.1 }
 {
     let at = Bearing::of(p);

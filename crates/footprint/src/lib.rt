@@ -200,7 +200,7 @@ pub fn seen(view: View, places: [SourcePixel; 7]) -> [Option<SourcePixel>; 7]
 }
 
 // Where a sample of the refinement falls that is taken at a place of the photograph, or at none: with
-// the border rejected. One call finds the footprint for every view, so that the compiler puts it in.
+// the border rejected.
 pub fn seen_footprint(width: u32, height: u32, at: Option<SourcePixel>) -> Footprint
     ensures { result ≡ point_footprint width height at }
 {

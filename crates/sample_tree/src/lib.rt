@@ -1,4 +1,4 @@
-// A sample of the refinement: through the camera, its pixels marked and copied, and counted.
+// A sample of the refinement at a place of the photograph: its pixels marked and copied, and counted.
 #![tactic(auto)]
 
 ghost use Rattle.std.specs.Prelude.{◌≡◌};

@@ -1,9 +1,7 @@
 -- `localize_by` meets its contract. The invariant of each loop is what is left of the tree: of the profile after k samples, of the point after so many passes.
 -- A rejected sample and a profile without a peak end it. Assumes nothing.
-use mathlib.Core.Path.{ap, ◌∙◌}
 use native.Mathlib.Omega.{arith}
 use Rattle.std.specs.Prelude.{None}
-use Rattle.footprint.specs.Footprints.{seen}
 use lib.ListN.{length-set}
 use Rattle.profile.proofs.SampleProfile.{none_sampled, one_sampled, sample-rejected, all_sampled}
 use Rattle.profile.proofs.Passes.{pass-rejected, no-peak, one_passed, all_passed}
@@ -15,9 +13,9 @@ loop-k-init c = (c.loop-pass.invariant.0, none_sampled _ _ _ c.loop-pass.samples
 pub loop-k-preserved : goal.loop-k-preserved
 loop-k-preserved c =
     let inv = c.loop-k.invariant in
+    let t = c.loop-k-test.true in
     let p = c.loop-pass.point.pos in
-    let at = c.seen-seen.ensures c.loop-k.k p None c.loop-k-test.true ∙ ap (seen _) (c.places.ensures c.loop-k.k p c.loop-k-test.true) in
-    (simp length-set inv.0, one_sampled _ _ _ _ c.loop-k-test.true inv.1 at c.sample.ensures inv.0 c.in-Some.is)
+    (simp length-set inv.0, one_sampled _ _ _ _ t inv.1 (c.places.ensures _ p t) (c.seen-seen.ensures _ p None t) c.sample.ensures inv.0 c.in-Some.is)
 
 pub loop-pass-preserved : goal.loop-pass-preserved
 loop-pass-preserved c =
@@ -37,10 +35,10 @@ returns c =
 pub returns-in_default : goal.returns-in_default
 returns-in_default c =
     let inv = c.loop-k.invariant in
+    let t = c.loop-k-test.true in
     let p = c.loop-pass.point.pos in
-    let at = c.seen-seen.ensures c.loop-k.k p None c.loop-k-test.true ∙ ap (seen _) (c.places.ensures c.loop-k.k p c.loop-k-test.true) in
     pass-rejected _ _ _ _ _ c.loop-pass-test.true c.loop-pass.invariant.2
-    (sample-rejected _ _ _ _ c.loop-k-test.true inv.1 at c.sample.ensures c.in_default.is)
+    (sample-rejected _ _ _ _ t inv.1 (c.places.ensures _ p t) (c.seen-seen.ensures _ p None t) c.sample.ensures c.in_default.is)
 
 pub returns-in_default-find_peak : goal.returns-in_default-find_peak
 returns-in_default-find_peak c =
