@@ -4,12 +4,11 @@
 ghost use Rattle.std.specs.Prelude.{◌≡◌};
 ghost use Rattle.arctan.specs.Arctan.{angle as angle_of, arctangent_to_1, arctangent};
 
-// The table's arctangent of i / 256.
-#[tactic(auto, using(crate::proofs::Numbers::exact_entry))]
+// The table's arctangent of i / 256. A signed number is one instruction from a float.
 fn angle(i: u32) -> f64
     ensures { result ≡ angle_of i }
 {
-    arctan_table::entry(i) as f64 / 4503599627370496.0
+    arctan_table::entry(i) as i64 as f64 / 4503599627370496.0
 }
 
 // The arctangent of a q from 0 to 1: the table's of a value at or below q, and the angle between.

@@ -90,6 +90,12 @@ projected c p =
     let n = on_plane c.rectified p in
     option_map (in_pixels c.intrinsics) (distorted c.distortion n.0 n.1)
 
+-- The same, but that a camera which changes nothing leaves the place alone. Of a place that is not
+-- finite nothing finite comes, and so `rectified_to_source` is this tested once (`carried_finite` of
+-- proofs/Carried).
+abbrev pub carried : CameraCalibration → SourcePixel → Option SourcePixel
+carried c p = when is_identity c then Some p else projected c p
+
 abbrev pub if_finite : SourcePixel → Option SourcePixel
 if_finite p = when is_finite p.0 && is_finite p.1 then Some p else None
 

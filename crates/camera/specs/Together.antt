@@ -1,17 +1,22 @@
 -- What the functions promise that take the places of a profile through a fisheye together. Internal.
-use Rattle.std.specs.Prelude.{◌≡◌}
+use Rattle.std.specs.Prelude.{Float, Option, option_map}
+use Rattle.std.specs.Float.{binary64}
+use Rattle.ieee.specs.Floats.{◌⊕◌, ◌⊗◌}
+use Rattle.ieee_root.specs.Root.{root}
 use Rattle.pixel.specs.declared.SourcePixel.{SourcePixel}
-use Rattle.camera.specs.declared.CameraIntrinsics.{CameraIntrinsics}
-use Rattle.camera.specs.declared.LensDistortion.{LensDistortion}
-use Rattle.camera.specs.declared.LensDistortion.TheVariants.{None, BrownConrady, Fisheye}
-use Rattle.camera.specs.declared.fisheye.Bearing.{Bearing}
-use Rattle.camera.specs.Camera.{on_plane}
+use Rattle.camera.specs.declared.CameraCalibration.{CameraCalibration}
+use Rattle.camera.specs.declared.Normalized.{Normalized}
+use Rattle.camera.specs.Camera.{fisheye, on_plane, in_pixels}
 
--- at is the bearing of the rectified place p
-abbrev pub IsBearing : CameraIntrinsics → SourcePixel → Bearing → Type 0
-IsBearing i p at = (at.x ≡ (on_plane i p).0) × (at.y ≡ (on_plane i p).1)
+-- the square of a place's distance from the axis, and the distance
+abbrev pub square : Normalized → Float
+square p = p.0 ⊗ p.0 ⊕ p.1 ⊗ p.1
 
-abbrev pub IsFisheye : LensDistortion → Type 0
-IsFisheye None = ⊥
-IsFisheye (BrownConrady k1 k2 p1 p2 k3) = ⊥
-IsFisheye (Fisheye k1 k2 k3 k4) = Unit {0}
+abbrev pub distance : Normalized → Float
+distance p = root binary64 (square p)
+
+-- where a fisheye in the place of the camera's lens carries a rectified place
+abbrev pub through_fisheye : CameraCalibration → Float → Float → Float → Float → SourcePixel → Option SourcePixel
+through_fisheye c k1 k2 k3 k4 p =
+    let n = on_plane c.rectified p in
+    option_map (in_pixels c.intrinsics) (fisheye k1 k2 k3 k4 n.0 n.1)

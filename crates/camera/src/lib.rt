@@ -1,16 +1,14 @@
 // camera.rs: from a rectified place to the source picture, for no lens, Brown-Conrady and fisheye.
 #![tactic(auto)]
 
-ghost use Rattle.std.specs.Prelude.{◌≡◌, ◌<◌, ℕ, Float, Option, slice_index_or};
+ghost use Rattle.std.specs.Prelude.{◌≡◌, ◌<◌, ℕ, Option, option_map, slice_index_or};
 ghost use Rattle.pixel.specs.declared.SourcePixel.{SourcePixel};
-ghost use Rattle.arctan.specs.Arctan.{arctangent};
-ghost use Rattle.camera.specs.declared.fisheye.Bearing.{Bearing};
-ghost use Rattle.camera.specs.Together.{IsBearing, IsFisheye};
-ghost use Rattle.camera.specs.Camera.{valid_intrinsics, valid_lens, valid_camera, is_none, is_identity, distorted, on_plane, in_pixels, projected, if_finite, rectified_to_source, camera_answer};
+ghost use Rattle.camera.specs.declared.Normalized.{Normalized};
+ghost use Rattle.camera.specs.Together.{through_fisheye};
+ghost use Rattle.camera.specs.Camera.{valid_intrinsics, valid_lens, valid_camera, is_none, is_identity, distorted, on_plane, in_pixels, projected, carried, if_finite, rectified_to_source, camera_answer};
 
 mod fisheye;
 
-use fisheye::Bearing;
 use number::Refusal;
 use pixel::SourcePixel;
 
@@ -127,18 +125,6 @@ fn if_finite(p: SourcePixel) -> Option<SourcePixel>
     }
 }
 
-// The angles with the axis of places.
-fn angles(bearings: [Bearing; 7]) -> [f64; 7]
-    ensures { (i : ℕ) (b : Bearing) (t : Float) → i < 7 →
-        slice_index_or result i t ≡ arctangent (slice_index_or bearings i b).r }
-{
-    let mut all = [0.0f64; 7];
-    for k in 0..7usize {
-        all[k] = arctan::arctan(bearings[k].r);
-    }
-    all
-}
-
 impl CameraCalibration {
     // Not refused by `Lens`.
     pub fn valid(self) -> bool
@@ -174,91 +160,93 @@ impl CameraCalibration {
         )
     }
 
+    // A place of the picture plane in the source picture, if there is one.
+    fn if_in_pixels(self, d: Option<Normalized>) -> Option<SourcePixel>
+        ensures { result ≡ option_map (in_pixels self.intrinsics) d }
+    {
+        match d {
+            Some(n) => Some(self.in_pixels(n)),
+            None => None,
+        }
+    }
+
     // Through the rectified picture's intrinsics, the lens, and the source picture's intrinsics.
     fn project(self, p: SourcePixel) -> Option<SourcePixel>
         ensures { result ≡ projected self p }
     {
-        let d = self.distortion.distort(self.on_plane(p))?;
-        Some(self.in_pixels(d))
+        self.if_in_pixels(self.distortion.distort(self.on_plane(p)))
     }
 
-    // Where a rectified place lies in the source picture. Whoever samples through the camera has
-    // tested it once, so it is not tested here.
+    // Where the steps of the camera carry a rectified place, finite or not.
+    fn carried(self, p: SourcePixel) -> Option<SourcePixel>
+        ensures { result ≡ carried self p }
+    {
+        if self.is_identity() {
+            return Some(p);
+        }
+        self.project(p)
+    }
+
+    // Where a rectified place lies in the source picture. The camera is not tested here.
     fn place_in_source(self, p: SourcePixel) -> Option<SourcePixel>
         ensures { result ≡ rectified_to_source self p }
     {
         if !ieee::is_finite(p.0) || !ieee::is_finite(p.1) {
             return None;
         }
-        if self.is_identity() {
-            return Some(p);
-        }
-        if_finite(self.project(p)?)
+        if_finite(self.carried(p)?)
     }
 
-    // The bearing of a rectified place.
-    fn bearing(self, p: SourcePixel) -> Bearing
-        ensures { IsBearing self.rectified p result }
+    // Rectified places on the picture plane. This array and those like it are filled by an index: with
+    // `map`, which takes each element through an `Option`, a job through a lens took a seventh longer.
+    fn on_planes(self, places: [SourcePixel; 7]) -> [Normalized; 7]
+        ensures { (i : ℕ) (p : SourcePixel) (n : Normalized) → i < 7 →
+            slice_index_or result i n ≡ on_plane self.rectified (slice_index_or places i p) }
     {
-        Bearing::of(self.on_plane(p))
-    }
-
-    // The bearings of places. This array and the three like it are filled by an index: with `map`,
-    // which takes each element through an `Option`, a job through a lens took a seventh longer.
-    fn bearings(self, places: [SourcePixel; 7]) -> [Bearing; 7]
-        ensures { (i : ℕ) (p : SourcePixel) (b : Bearing) → i < 7 →
-            IsBearing self.rectified (slice_index_or places i p) (slice_index_or result i b) }
-    {
-        let mut all = [Bearing::of(Normalized(0.0, 0.0)); 7];
+        let mut all = [Normalized(0.0, 0.0); 7];
         for k in 0..7usize {
-            all[k] = self.bearing(places[k]);
+            all[k] = self.on_plane(places[k]);
         }
         all
     }
 
-    // Where a place lies in the source picture of a fisheye, whose bearing and angle are known.
-    fn through_fisheye(self, p: SourcePixel, at: Bearing, theta: f64) -> Option<SourcePixel>
-        requires bearing { IsBearing self.rectified p at }
-        requires angle { theta ≡ arctangent at.r }
-        ensures { IsFisheye self.distortion → result ≡ rectified_to_source self p }
-    {
-        if_finite(p)?;
-        match self.distortion {
-            LensDistortion::Fisheye { k1, k2, k3, k4 } => {
-                let d = at.bent(k1, k2, k3, k4, theta)?;
-                if_finite(self.in_pixels(d))
-            }
-            _ => None,
-        }
-    }
-
-    // Where places lie in the source picture of a fisheye. One place's steps wait for each other, so
-    // each is done for all of them before the next.
+    // Where a fisheye in the place of the camera's lens carries places. One place's steps wait for each
+    // other, so each is done for all of them before the next.
     #[inline(never)]
-    fn places_through_fisheye(self, places: [SourcePixel; 7]) -> [Option<SourcePixel>; 7]
-        ensures { (i : ℕ) (p : SourcePixel) (q : Option SourcePixel) → i < 7 → IsFisheye self.distortion →
-            slice_index_or result i q ≡ rectified_to_source self (slice_index_or places i p) }
+    fn through_fisheye(
+        self,
+        k1: f64,
+        k2: f64,
+        k3: f64,
+        k4: f64,
+        places: [SourcePixel; 7],
+    ) -> [Option<SourcePixel>; 7]
+        ensures { (i : ℕ) (p : SourcePixel) (q : Option SourcePixel) → i < 7 →
+            slice_index_or result i q ≡ through_fisheye self k1 k2 k3 k4 (slice_index_or places i p) }
     {
-        let bearings = self.bearings(places);
-        let angles = angles(bearings);
+        let planes = self.on_planes(places);
+        let distances = fisheye::distances(planes);
+        let angles = fisheye::angles(distances);
         let mut all = [None; 7];
         for k in 0..7usize {
-            all[k] = self.through_fisheye(places[k], bearings[k], angles[k]);
+            let bent = fisheye::bent_at(k1, k2, k3, k4, planes[k], distances[k], angles[k]);
+            all[k] = self.if_in_pixels(bent);
         }
         all
     }
 
-    // Where the places of a profile lie in the source picture.
-    pub fn places_in_source(self, places: [SourcePixel; 7]) -> [Option<SourcePixel>; 7]
+    // Where the steps of the camera carry the places of a profile, finite or not: whether a place is
+    // finite is asked where the sample falls.
+    pub fn carried_profile(self, places: [SourcePixel; 7]) -> [Option<SourcePixel>; 7]
         ensures { (i : ℕ) (p : SourcePixel) (q : Option SourcePixel) → i < 7 →
-            slice_index_or result i q ≡ rectified_to_source self (slice_index_or places i p) }
+            slice_index_or result i q ≡ carried self (slice_index_or places i p) }
     {
-        if let LensDistortion::Fisheye { .. } = self.distortion {
-            return self.places_through_fisheye(places);
+        if let LensDistortion::Fisheye { k1, k2, k3, k4 } = self.distortion {
+            return self.through_fisheye(k1, k2, k3, k4, places);
         }
         let mut all = [None; 7];
         for k in 0..7usize {
-            all[k] = self.place_in_source(places[k]);
+            all[k] = self.carried(places[k]);
         }
         all
     }

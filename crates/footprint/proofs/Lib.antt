@@ -4,5 +4,6 @@ pub mod Places
 pub mod Cuts
 pub mod Weights
 pub mod Inner
+pub mod Carried
 -- the definitions opened together
 pub mod Opened

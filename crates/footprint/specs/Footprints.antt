@@ -7,7 +7,7 @@ use Rattle.ieee.specs.Parts.{is_finite}
 use Rattle.ieee.specs.Floats.{◌⊖◌, ◌≺◌, ◌≐◌, f0, float, whole_part}
 use Rattle.pixel.specs.declared.SourcePixel.{SourcePixel}
 use Rattle.camera.specs.declared.CameraCalibration.{CameraCalibration}
-use Rattle.camera.specs.Camera.{valid_camera, rectified_to_source}
+use Rattle.camera.specs.Camera.{valid_camera, carried, rectified_to_source}
 use Rattle.footprint.specs.declared.BorderMode.{BorderMode}
 use Rattle.footprint.specs.declared.BorderMode.TheVariants.{Reject, Clamp, Constant}
 use Rattle.footprint.specs.declared.Footprint.{Footprint}
@@ -71,6 +71,12 @@ viewed_footprint w h v q = point_footprint w h (seen v q)
 
 abbrev pub scene_footprint : Scene → SourcePixel → Footprint
 scene_footprint s q = viewed_footprint s.width s.height s.view q
+
+-- The same by the steps of the camera alone, whose coordinates may be infinite or NaNs: a sample there is
+-- rejected, as one at no place is (`carried_seen` of proofs/Carried).
+abbrev pub carried_through : View → SourcePixel → Option SourcePixel
+carried_through None q = Some q
+carried_through (Some c) q = carried c q
 
 -- the entry check by `Lens`
 abbrev pub good_view : View → Bool

@@ -5,7 +5,7 @@ ghost use Rattle.std.specs.Prelude.{◌≡◌, ℕ, ◌+◌, ◌-◌, ◌<◌, m
 ghost use Rattle.ieee.specs.Parts.{is_finite};
 ghost use Rattle.ieee.specs.Floats.{◌≺◌, f0, float};
 ghost use Rattle.pixel.specs.declared.SourcePixel.{SourcePixel};
-ghost use Rattle.footprint.specs.Footprints.{inside, neighbour as neighbour_of, interior_cell, at_border, footprint as footprint_of, point_footprint, seen as seen_of, good_view};
+ghost use Rattle.footprint.specs.Footprints.{inside, neighbour as neighbour_of, interior_cell, at_border, footprint as footprint_of, point_footprint, carried_through, good_view};
 ghost use Rattle.footprint.specs.declared.BorderMode.TheVariants.{Reject};
 
 use camera::CameraCalibration;
@@ -188,14 +188,14 @@ fn unmoved(places: [SourcePixel; 7]) -> [Option<SourcePixel>; 7]
     all
 }
 
-// Where the places of a profile lie in the photograph.
-pub fn seen(view: View, places: [SourcePixel; 7]) -> [Option<SourcePixel>; 7]
+// Where the camera's steps carry the places of a profile, finite or not.
+pub fn carried_through(view: View, places: [SourcePixel; 7]) -> [Option<SourcePixel>; 7]
     ensures { (i : ℕ) (p : SourcePixel) (q : Option SourcePixel) → i < 7 →
-        slice_index_or result i q ≡ seen_of view (slice_index_or places i p) }
+        slice_index_or result i q ≡ carried_through view (slice_index_or places i p) }
 {
     match view {
         None => unmoved(places),
-        Some(camera) => camera.places_in_source(places),
+        Some(camera) => camera.carried_profile(places),
     }
 }
 

@@ -8,5 +8,6 @@ pub mod Counts
 pub mod Magnitudes
 pub mod Zeros
 pub mod Squares
+pub mod Finiteness
 -- the definitions opened together
 pub mod Opened

@@ -6,7 +6,7 @@ use native.Mathlib.Numerals.{add-one}
 use native.Mathlib.Omega.{arith}
 use lib.Pow.{pow_mono}
 use Rattle.ieee_root.specs.Root.{NearRoot}
-use Rattle.ieee_root.proofs.Roots.{square_next}
+use Rattle.ieee_root.proofs.WholeRoots.{square_next}
 
 -- After i turns on A, a word of 64 digits: q * q + r is what the highest 2 * i digits of A make, with zeros after the word's end, and `rest` holds the digits that are left.
 pub record Down (A i q r rest : ℕ) : Type 0 where

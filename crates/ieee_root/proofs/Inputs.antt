@@ -5,18 +5,18 @@ use Prim.Native.Nat.{ℕ, zero, suc, ◌+◌, ◌-◌, ◌*◌, ◌/◌, ◌%◌
 use native.Mathlib.Nat.{le_trans, le_of_eq, lt_of_lt_of_le, lt_of_le_of_lt, lt_of_not-le, not-le_of_lt, lt_irrefl, mul-one, zero-mul, mul_assoc, mul_right_comm, mul-le-mul_right, mul-div_cancel, mod-lt, mod-eq_of_lt}
 use native.Mathlib.Omega.{arith}
 use lib.IntN.{ℤ, pos}
-use lib.Dec.{T, leb, eqb, ltb→lt, nleb→lt, nltb→le, eqb→eq, T_not}
+use lib.Dec.{T, leb, eqb, lit<, ltb→lt, nleb→lt, nltb→le, eqb→eq, T_not}
 use lib.Pow.{pow_pos, pow_mono, pow-add, shl_lt}
 use lib.Bits.{bit_and, bit_or, and_mask, or_shifted_r}
 use lib.Count.{count_leading_zeros, leading_top}
-use lib.Ieee.{Float, nan, inf, fin, binary64, up, down, odd, of_fields, to_bits, fits, is_nan, lt, eq}
+use lib.Ieee.{Float, nan, inf, fin, binary64, up, down, odd, of_fields, of_bits, to_bits, fits, is_nan, lt, eq}
 use lib.Ieee.Bits.{of_bits-to_bits}
 use lib.Ieee.Exact.{HasValue, odd_sign}
 use lib.Ieee.Fits.{down_pos, up_pos, eq→eqb, and_l, and_i}
 use lib.Ieee.Positive.{positive, above, first_pos, value_pos}
 use Rattle.prelude.proofs.Tests.{or_right}
 use Rattle.ieee_root.specs.Root.{root, root_units}
-use Rattle.ieee.proofs.Patterns.{yes, no, of_bits_is}
+use Rattle.ieee.proofs.Patterns.{yes, no, of_bits_is, zero_is}
 use Rattle.ieee_root.proofs.Examples.{infinity}
 
 abbrev zero_float : Float
@@ -155,6 +155,18 @@ module _ (x : Float) (F : T (fits binary64 x)) (A : T (above x)) where
   unfolding to_bits
   of_infinity e = ap (to_bits binary64) e
 
+  -- the sign's bit is not set
+  pub positive_pattern : b < 2 ^ 63
+  positive_pattern = go reading
+    where
+      under : (c : ℕ) → c ≡ 9218868437227405312 → c < 9223372036854775808
+      under c e = omega arith
+
+      go : Reading (leb (2 ^ 63) b) (b % 2 ^ 63 / 2 ^ 52) (b % 2 ^ 52) x → b < 2 ^ 63
+      go (subnormal s f p v) = clear_sign s
+      go (normal s j f n p v) = clear_sign s
+      go (infinite e) = under b (of_infinity e)
+
   -- below 2 ^ 52
   pub small_root : b < 2 ^ 52 → (0 < b) × (root binary64 x ≡ root_units binary64 (b * 2 ^ 1074))
   small_root h = go reading
@@ -218,6 +230,14 @@ module _ (x : Float) (F : T (fits binary64 x)) (A : T (above x)) where
                 ∙ ap (root_units binary64) (mul_assoc m (2 ^ j) (2 ^ 1074) ∙ ap (λ (z : ℕ). m * z) (sym (pow-add 2 j 1074)) ∙ ap (λ (z : ℕ). m * 2 ^ z) (shift (b / 2 ^ 52) j (field_of b j (clear_sign s) f))),
           )
       go (infinite e) = absurd (h (ones b (of_infinity e)))
+
+-- a value above 0 has a pattern with no sign
+pub above_unsigned : (x : Float) → T (fits binary64 x) → lt (of_bits binary64 0) x ≡ true → to_bits binary64 x < 2 ^ 63
+above_unsigned x F h = positive_pattern x F (above_zero x (ap (λ (z : Float). lt z x) (sym zero_is) ∙ h))
+
+pub zero_unsigned : to_bits binary64 (of_bits binary64 0) < 2 ^ 63
+unfolding to_bits of_bits
+zero_unsigned = lit< tt
 
 -- ---- a normal value's digits under the leading one, as the code puts them together
 

@@ -7,7 +7,7 @@ pub mod Examples
 -- its inputs by their patterns
 pub mod Inputs
 -- the root
-pub mod Roots
+pub mod WholeRoots
 pub mod RootLaws
 pub mod Counts
 pub mod Magnitudes

@@ -2,7 +2,7 @@
 -- `RootNearest.antt` states what follows of the values themselves. Assumes nothing.
 use mathlib.Core.Path.{◌≡◌, refl, sym, ap, ◌∙◌, subst}
 use mathlib.Core.Logic.{◌⊎◌, inl, inr}
-use mathlib.Core.Bool.{Bool, true, false}
+use mathlib.Core.Bool.{Bool, true, false, true≢false}
 use Prim.Native.Nat.{ℕ, zero, suc, ◌+◌, ◌-◌, ◌*◌, ◌/◌, ◌%◌, ◌^◌, ◌≤◌, ◌<◌}
 use native.Mathlib.Nat.{le_trans, le_of_eq, le_of_lt, lt_of_lt_of_le, lt_of_le_of_lt, lt_of_not-le, not-le_of_lt, lt_irrefl, zero-lt-suc, sub-add_cancel, mul-one, zero-mul, mul_comm, mul_assoc, mul_left_comm, add-mul, mul-le-mul_left, mul-le-mul_right, mul-lt-mul_of_pos_right, lt_of_mul-lt-mul_right, eq_of_mul-eq-mul_right, mul-pos, eq-or-lt_of_le}
 use native.Mathlib.Numerals.{add-one}
@@ -16,11 +16,12 @@ use lib.Ieee.{Float, nan, inf, fin, binary64, up, down, units, fits, to_bits}
 use lib.Ieee.Exact.{HasValue}
 use lib.Ieee.Fits.{down_pos}
 use lib.Ieee.Positive.{positive, above, value_pos}
+use Rattle.ieee.specs.Parts.{is_finite}
 use Rattle.ieee.proofs.Counts.{pow_le_back, in-units}
 use Rattle.ieee.proofs.Patterns.{fits-says}
 use Rattle.ieee_root.specs.Root.{root, root_by, root_units, NearRoot}
 use Rattle.ieee_root.proofs.Inputs.{Reading, subnormal, normal, infinite, reading, root-of-value, digits_between, lifted, lifted_same}
-use Rattle.ieee_root.proofs.Roots.{square_twice, square_next, square-middle, square_mono, Floor, root_by-is, root-units, units-value, units-fits}
+use Rattle.ieee_root.proofs.WholeRoots.{square_twice, square_next, square-middle, square_mono, Floor, root_by-is, root-units, units-value, units-fits}
 use Rattle.ieee_root.proofs.Scaled.{shifted, n-low, n-lt, k-high, scaled, r-low, r-high}
 
 -- ---- one number of units
@@ -35,6 +36,15 @@ positive_above nan p = absurd p
 positive_above (inf s) p = absurd p
 positive_above (fin true m e) p = absurd p
 positive_above (fin false m e) p = p
+
+-- ---- no root is finite of a value that is not
+
+pub lost_root : (x : Float) → is_finite x ≡ false → is_finite (root binary64 x) ≡ false
+unfolding is_finite root
+lost_root nan h = refl
+lost_root (inf true) h = refl
+lost_root (inf false) h = refl
+lost_root (fin s m e) h = absurd (true≢false h)
 
 -- ---- x's root as m * 2 ^ g, with an m of 53 digits
 

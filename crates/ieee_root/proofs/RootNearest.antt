@@ -16,7 +16,7 @@ use lib.Ieee.{Float, nan, inf, fin, binary64, fits}
 use lib.Ieee.Scale.{finite}
 use lib.Ieee.Positive.{positive, positive-finite}
 use Rattle.ieee_root.specs.Root.{root}
-use Rattle.ieee_root.proofs.Roots.{square_mono}
+use Rattle.ieee_root.proofs.WholeRoots.{square_mono}
 use Rattle.ieee_root.proofs.RootLaws.{Beside, half_unit, root-fits}
 use Rattle.ieee.proofs.Counts.{count, negative, count_exact, count_tells, count_of}
 use Rattle.ieee_root.proofs.Counts.{positive_sign, found, root_positive, beside, above_half}

@@ -6,7 +6,7 @@ use native.Mathlib.Omega.{arith}
 use lib.Pow.{pow-add}
 use lib.Ieee.{binary64, of_bits}
 use Rattle.ieee_root.specs.Root.{root_units, NearRoot}
-use Rattle.ieee_root.proofs.Roots.{root-units, near_low, near_high, pattern_is}
+use Rattle.ieee_root.proofs.WholeRoots.{root-units, near_low, near_high, pattern_is}
 
 -- ---- m shifted by one place or none
 

@@ -3,7 +3,7 @@
 // by its digits.
 #![tactic(auto)]
 
-ghost use Rattle.std.specs.Prelude.{true, ◌≡◌, ◌+◌, ◌*◌, ◌/◌, ◌%◌, ◌^◌, ◌≤◌, ◌<◌};
+ghost use Rattle.std.specs.Prelude.{true, ◌≡◌, ℕ, Float, slice_index_or, ◌+◌, ◌*◌, ◌/◌, ◌%◌, ◌^◌, ◌≤◌, ◌<◌};
 ghost use Rattle.std.specs.Float.{binary64};
 ghost use Rattle.ieee_root.specs.Root.{root, root_units, NearRoot};
 
@@ -43,7 +43,34 @@ impl Mantissa {
 }
 
 // The square root of x.
+#[tactic(auto, using(crate::proofs::Inputs::above_unsigned))]
 pub fn sqrt(x: f64) -> f64
+    ensures { result ≡ root binary64 x }
+{
+    let guess = if x > 0.0 {
+        newton_root(x, f64::to_bits(x))
+    } else {
+        x
+    };
+    tested_root(x, guess)
+}
+
+// The square roots of values. All are guessed before the first guess is tested: a guess has no
+// branches, so that a processor works out two at once.
+pub fn roots<const N: usize>(xs: [f64; N]) -> [f64; N]
+    ensures { (i : ℕ) (x : Float) (r : Float) → i < N →
+        slice_index_or result i r ≡ root binary64 (slice_index_or xs.entry i x) }
+{
+    let guesses = quick_roots(xs);
+    let mut all = guesses;
+    for k in 0..N {
+        all[k] = tested_root(xs[k], guesses[k]);
+    }
+    all
+}
+
+// The square root of x: the guess, where the tests accept it.
+fn tested_root(x: f64, guess: f64) -> f64
     ensures { result ≡ root binary64 x }
 {
     if x > 0.0 {
@@ -55,7 +82,7 @@ pub fn sqrt(x: f64) -> f64
         if b >> 52 == 2047 {
             return x;
         }
-        return normal_root(x, b);
+        return normal_root(b, guess);
     }
     if x == 0.0 {
         return x;
@@ -63,16 +90,14 @@ pub fn sqrt(x: f64) -> f64
     0.0 / 0.0
 }
 
-// The root of the normal value x, which has the bit pattern b. The guess is made on x itself and
-// returned as it is: so nothing has to wait for the test, which the processor expects to pass. By
-// the contract x may be any value, since the test looks at b alone.
-fn normal_root(x: f64, b: u64) -> f64
+// The root of the normal value that has the bit pattern b. The guess is returned as it is: so nothing
+// has to wait for the test, which the processor expects to pass.
+fn normal_root(b: u64, guess: f64) -> f64
     requires normal { (2 ^ 52 ≤ b) × (b / 2 ^ 52 < 2047) }
     ensures { result ≡ root_units binary64 ((2 ^ 52 + b % 2 ^ 52) * 2 ^ (b / 2 ^ 52 + 1073)) }
 {
     let m = Mantissa::of_bits(b);
     let g = (b >> 52) + 1073;
-    let guess = newton_root(x, b);
     if is_root(guess, m, g) {
         return guess;
     }
@@ -135,6 +160,23 @@ fn guess(m: Mantissa, p: u64) -> Mantissa
 {
     let b = ((1074 + p) << 52) + m.digits;
     Mantissa::of_bits(ieee::bits_of(newton_root(ieee::from_bits(b), b)))
+}
+
+// Guesses at the roots of values.
+fn quick_roots<const N: usize>(xs: [f64; N]) -> [f64; N] {
+    let mut all = xs;
+    for k in 0..N {
+        all[k] = quick_root(xs[k]);
+    }
+    all
+}
+
+// A guess at the root of x, which is of use where x is a normal value above 0. It chooses the value
+// and not the guess, so that nothing branches; a single root has no need of that.
+#[tactic(auto, using(crate::proofs::Inputs::above_unsigned, crate::proofs::Inputs::zero_unsigned))]
+fn quick_root(x: f64) -> f64 {
+    let y = if x > 0.0 { x } else { 0.0 };
+    newton_root(y, f64::to_bits(y))
 }
 
 // A guess at the root of the normal value x, which has the bit pattern b: right in 9,987 of 10,000

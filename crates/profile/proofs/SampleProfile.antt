@@ -14,7 +14,7 @@ use Rattle.ieee.specs.Floats.{◌⊖◌, float, f3}
 use Rattle.pixel.specs.declared.SourcePixel.{SourcePixel}
 use Rattle.pixel.specs.declared.Direction.{Direction}
 use Rattle.footprint.specs.declared.Scene.{Scene}
-use Rattle.footprint.specs.Footprints.{seen}
+use Rattle.footprint.specs.Footprints.{carried_through}
 use Rattle.sample_tree.specs.SampleTree.{SampleTree, done, one_sample, ◌>>=◌}
 use Rattle.sample_tree.specs.Options.{on_some}
 use Rattle.sample_tree.specs.declared.Sampler.{Sampler}
@@ -37,14 +37,14 @@ module _ (normal : Direction) (step : Float) (c : SourcePixel) where
   rest k out v = sample_profile normal step c (7 - (k + 1)) (suc k) (take k out ++ v ∷ [])
 
   module _ {k : ℕ} (out : List Float) {first now after : Sampler} {r : Option Float} {q : SourcePixel} {at : Option SourcePixel} (l : k < 7) (before : Sampled first now k out)
-      (place_is : q ≡ offset_along normal step c (float k ⊖ f3)) (seen_is : at ≡ seen first.scene.view q) (ran : SampledAt now after at r) where
+      (place_is : q ≡ offset_along normal step c (float k ⊖ f3)) (carried_is : at ≡ carried_through first.scene.view q) (ran : SampledAt now after at r) where
     turn : Left first now (profile normal step c) (one_sample (place k) >>= on_some (rest k out))
     unfolding sample_profile rest place
     turn = subst (λ (n : ℕ). Left first now (profile normal step c) (sample_profile normal step c n k (take k out))) (one_less 7 k l) before
 
     shown : Samples now after (one_sample (place k)) r
     unfolding place
-    shown = sampled (place k) (seen_is ∙ ap (seen first.scene.view) place_is ∙ ap (λ (e : Scene). seen e.view (place k)) (sym before.scene)) ran
+    shown = sampled (place k) (carried_is ∙ ap (carried_through first.scene.view) place_is ∙ ap (λ (e : Scene). carried_through e.view (place k)) (sym before.scene)) ran
 
     -- the next sample is in
     pub one_sampled : {v : Float} → length out ≡ 7 → r ≡ Some v → Sampled first after (k + 1) (set out k v)

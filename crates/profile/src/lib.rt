@@ -73,9 +73,10 @@ fn localize_by(sampler: &mut Sampler, settings: Settings, ray: Ray) -> Option<Ed
     'passes: {
         for pass in 0..PASSES {
             let center = point.pos;
-            let seen = footprint::seen(sampler.scene.view, places(normal, step, center));
+            let places = places(normal, step, center);
+            let carried = footprint::carried_through(sampler.scene.view, places);
             for k in 0..SAMPLES {
-                let Some(v) = sampler.sample(seen[k as usize]) else {
+                let Some(v) = sampler.sample(carried[k as usize]) else {
                     break 'passes;
                 };
                 samples[k as usize] = v;

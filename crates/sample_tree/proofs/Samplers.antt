@@ -1,12 +1,14 @@
 -- How the promise of a function that is lent a sampler follows its code: a sample is taken or a callee runs a bound step, and what is left of the tree goes on
 -- to its end, or stops where a step ended in nothing or in an error. A proof of such a function uses these laws alone, and never looks at pixels, sheets or counts. Assumes nothing.
-use mathlib.Core.Path.{◌≡◌, refl, ◌∙◌, subst}
+use mathlib.Core.Path.{◌≡◌, refl, ap, ◌∙◌, subst}
 use Rattle.std.specs.Prelude.{Option, None, Some}
 use Rattle.std.specs.Prelude.{Result, Ok, Err}
 use lib.Ieee.{Float}
 use Rattle.pixel.specs.declared.SourcePixel.{SourcePixel}
 use Rattle.photograph.specs.Photographs.{photo, photo_of}
-use Rattle.footprint.specs.Footprints.{point_footprint, seen}
+use Rattle.footprint.specs.declared.Footprint.{Footprint}
+use Rattle.footprint.specs.Footprints.{point_footprint, carried_through}
+use Rattle.footprint.proofs.Carried.{carried_seen}
 use Rattle.sampling.specs.Marks.{buffers, ReadsSample}
 use Rattle.sample_tree.specs.SampleTree.{SampleTree, done, one_sample, value, ◌>>=◌}
 use Rattle.sample_tree.specs.Options.{on_some}
@@ -63,16 +65,17 @@ module _ {A : Type 0} {first now : Sampler} {t : SampleTree A} where
           (subst (λ (ask : Handler State). Runs ask u r (state_of now) (state_of after)) (same_sampler first now left.photograph left.scene) ran.runs));
     }
 
--- a sample at the place where q is seen is one at q
-pub sampled : {before after : Sampler} (q : SourcePixel) {at : Option SourcePixel} {r : Option Float} → at ≡ seen before.scene.view q → SampledAt before after at r → Samples before after (one_sample q) r
+-- a sample at the place that the camera's steps carry q to is one at q
+pub sampled : {before after : Sampler} (q : SourcePixel) {at : Option SourcePixel} {r : Option Float} → at ≡ carried_through before.scene.view q → SampledAt before after at r
+    → Samples before after (one_sample q) r
 sampled {before} {after} q {at} {r} is ran = record {
   photograph = ran.photograph;
   scene = ran.scene;
   sheet = ran.sheet;
   copy = ran.copy;
   runs = steps.shown before.scene (photo_of before.photograph) q
-      (subst (λ (z : Option SourcePixel). ReadsSample (photo_of before.photograph) before.scene.width (point_footprint before.scene.width before.scene.height z) r
-      (buffers before.sheet.now before.copy.now) (buffers after.sheet.now after.copy.now)) is ran.reads) ran.counted;
+      (subst (λ (f : Footprint). ReadsSample (photo_of before.photograph) before.scene.width f r (buffers before.sheet.now before.copy.now) (buffers after.sheet.now after.copy.now))
+      (ap (point_footprint before.scene.width before.scene.height) is ∙ carried_seen before.scene.width before.scene.height before.scene.view q) ran.reads) ran.counted;
 }
 
 -- a first step that found something, and one that found nothing

@@ -15,7 +15,7 @@ loop-k-preserved c =
     let inv = c.loop-k.invariant in
     let t = c.loop-k-test.true in
     let p = c.loop-pass.point.pos in
-    (simp length-set inv.0, one_sampled _ _ _ _ t inv.1 (c.places.ensures _ p t) (c.seen-seen.ensures _ p None t) c.sample.ensures inv.0 c.in-Some.is)
+    (simp length-set inv.0, one_sampled _ _ _ _ t inv.1 (c.places-places.ensures _ p t) (c.carried_through-carried.ensures _ p None t) c.sample.ensures inv.0 c.in-Some.is)
 
 pub loop-pass-preserved : goal.loop-pass-preserved
 loop-pass-preserved c =
@@ -38,7 +38,7 @@ returns-in_default c =
     let t = c.loop-k-test.true in
     let p = c.loop-pass.point.pos in
     pass-rejected _ _ _ _ _ c.loop-pass-test.true c.loop-pass.invariant.2
-    (sample-rejected _ _ _ _ t inv.1 (c.places.ensures _ p t) (c.seen-seen.ensures _ p None t) c.sample.ensures c.in_default.is)
+    (sample-rejected _ _ _ _ t inv.1 (c.places-places.ensures _ p t) (c.carried_through-carried.ensures _ p None t) c.sample.ensures c.in_default.is)
 
 pub returns-in_default-find_peak : goal.returns-in_default-find_peak
 returns-in_default-find_peak c =

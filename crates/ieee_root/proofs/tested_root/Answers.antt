@@ -1,4 +1,4 @@
--- `ieee_root::sqrt` meets its contract. The tests against 0.0 leave the values above zero, whose patterns `Inputs.antt` reads. Assumes nothing.
+-- `ieee_root::tested_root` meets its contract. The tests against 0.0 leave the values above zero, whose patterns `Inputs.antt` reads. Assumes nothing.
 use mathlib.Core.Path.{◌≡◌, sym, ap, ◌∙◌, subst}
 use Prim.Native.Nat.{ℕ, ◌+◌, ◌-◌, ◌*◌, ◌/◌, ◌%◌, ◌^◌, ◌≤◌, ◌<◌}
 use native.Mathlib.Omega.{arith}
@@ -9,8 +9,8 @@ use lib.Ieee.Positive.{above}
 use Rattle.ieee_root.specs.Root.{root, root_units}
 use Rattle.ieee.proofs.Patterns.{yes, zero_is, zero_by_zero}
 use Rattle.ieee_root.proofs.Inputs.{above_zero, root_zero, root_none, small_root, infinite_root, normal_root, Lifted, lifted, lifted_same}
-use Rattle.ieee_root.proofs.sqrt.Goals as goal
-use Rattle.ieee_root.proofs.sqrt.Goals.{Else-b-eq2047, Start, Then-b-lt4503599627370496, Then-x}
+use Rattle.ieee_root.proofs.tested_root.Goals as goal
+use Rattle.ieee_root.proofs.tested_root.Goals.{Else-b-eq2047, Start, Then-b-lt4503599627370496, Then-x}
 
 abbrev x : Start → Float
 x c = c.args.x

@@ -1,0 +1,2 @@
+-- What holds of a camera.
+pub mod Carried
