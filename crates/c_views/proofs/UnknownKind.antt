@@ -7,6 +7,7 @@ use lib.Ieee.{Float, nan, binary64, of_bits}
 use native.Mathlib.Omega.{arith}
 use borrow.Author.Tests.{ne_eqb}
 use Rattle.std.specs.Prelude.{Err}
+use Rattle.std.specs.Float.{float_is_finite}
 use Rattle.ieee.specs.Parts.{is_finite}
 use Rattle.number.specs.declared.Refusal.TheVariants as refusal
 use Rattle.pixel.specs.declared.SourcePixel.{SourcePixel}
@@ -24,7 +25,7 @@ last_fails true false c e = refl
 last_fails false b c e = refl
 
 unknown_invalid : (s : List Float) (lens : ℕ) → 2 < lens → valid_lens (lens_of s lens) ≡ false
-unfolding is_finite
+unfolding float_is_finite
 unknown_invalid s lens h = rw (ne_eqb lens 0 (λ e. omega arith), ne_eqb lens 1 (λ e. omega arith), ne_eqb lens 2 (λ e. omega arith))
 
 -- so a refinement through it ends in 6 or in a number that is tested before

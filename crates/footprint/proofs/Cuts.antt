@@ -11,6 +11,7 @@ use lib.Ieee.{Float, nan, inf, fin, up, down, lt, to_unsigned}
 use lib.Ieee.Exact.{HasValue}
 use lib.Ieee.Fits.{down_pos}
 use Rattle.prelude.specs.Prelude.{when◌then◌else◌}
+use Rattle.std.specs.Float.{float_is_finite}
 use Rattle.ieee.specs.Parts.{is_finite}
 use Rattle.ieee_whole.proofs.WholeGuess.{float_value}
 use Rattle.ieee.specs.Floats.{◌⊖◌, ◌≺◌, ◌≐◌, f0, float, whole_part}
@@ -37,7 +38,7 @@ not_above n (fin false k d) m e v h =
     (down_pos d)
 
 pub whole_part_le : (n : ℕ) (x : Float) → n < 2 ^ 53 → is_finite x ≡ true → (float n ≺ x) ≡ false → whole_part x ≤ n
-unfolding is_finite to_unsigned
+unfolding float_is_finite to_unsigned
 whole_part_le n nan h f l = zero-le
 whole_part_le n (inf s) h f l = absurd (true≢false (sym f))
 whole_part_le n (fin true m e) h f l = zero-le

@@ -7,6 +7,7 @@ use mathlib.Core.Bool.{Bool, true, false, not, ◌&&◌, ◌||◌, and-false, tr
 use lib.Ieee.{Float, of_bits}
 use borrow.Author.Tests.{not-true, not-false}
 use Rattle.prelude.proofs.Tests.{both}
+use Rattle.std.specs.Float.{float_is_finite}
 use Rattle.ieee.specs.Parts.{is_finite}
 use Rattle.ieee.specs.Floats.{◌≺◌, ◌≼◌, f0, float}
 use Rattle.ieee.proofs.Order.{not_more, else_more, amid_finite}
@@ -20,7 +21,7 @@ use Rattle.footprint.specs.Footprints.{inside, outside, interior_cell, at_border
 
 -- x from 0 to n: two comparisons say that it is finite and beyond neither end
 pub between : (n : ℕ) → n < 2 ^ 53 → (x : Float) → ((f0 ≼ x) && (x ≼ float n)) ≡ (is_finite x && not (x ≺ f0) && not (float n ≺ x))
-unfolding of_bits is_finite
+unfolding of_bits float_is_finite
 between n small x = go (is_finite x) refl (f0 ≼ x) refl (x ≼ float n) refl
   where
     zero : is_finite f0 ≡ true

@@ -8,7 +8,7 @@ use lib.Ieee.{Float, nan, inf, fin, up, down, of_int, to_unsigned}
 use lib.Ieee.Exact.{HasValue}
 use lib.Dec.{ltb}
 use borrow.Author.Tests.{ltb-true, ltb-false}
-use Rattle.ieee.specs.Parts.{is_finite}
+use Rattle.std.specs.Float.{float_is_finite}
 use Rattle.ieee.specs.Floats.{◌⊖◌, ◌≐◌, f0, float, whole_part}
 use Rattle.ieee.proofs.Magnitudes.{Within}
 use Rattle.ieee.proofs.Order.{gone}
@@ -25,7 +25,7 @@ use Rattle.footprint.proofs.Weights.{between_within}
 
 -- a value whose whole part is n, and that is no more than n, is n
 is_whole : (n : ℕ) (x : Float) → n < 2 ^ 32 → 0 < n → Between n x → n ≤ whole_part x → HasValue x false n 1
-unfolding is_finite to_unsigned
+unfolding float_is_finite to_unsigned
 is_whole n nan N P b h = absurd (true≢false (sym b.finite))
 is_whole n (inf s) N P b h = absurd (true≢false (sym b.finite))
 is_whole n (fin true m e) N P b h = absurd (omega arith)

@@ -11,6 +11,7 @@ use lib.Ieee.{Float, nan, inf, fin, up, down, lt, of_bits}
 use lib.Ieee.Exact.{HasValue}
 use Rattle.prelude.proofs.Tests.{both, neither_left, neither_right}
 use Rattle.prelude.specs.Prelude.{when◌then◌else◌}
+use Rattle.std.specs.Float.{float_is_finite}
 use Rattle.ieee.specs.Parts.{is_finite}
 use Rattle.ieee.specs.Floats.{◌≺◌, ◌≼◌, f0, float}
 use Rattle.ieee.proofs.Order.{not_itself, else_more}
@@ -53,7 +54,7 @@ not_negative n (fin true m e) v = absurd (true≢false v.0)
 not_negative n (fin false m e) v = le-ltb (m * up e * 1) (0 * 1 * down e) (omega (arith, zero-mul (down e)))
 
 zero_finite : is_finite f0 ≡ true
-unfolding is_finite of_bits
+unfolding float_is_finite of_bits
 zero_finite = refl
 
 pub from_zero : (n : ℕ) → n < 2 ^ 53 → T (f0 ≼ float n)

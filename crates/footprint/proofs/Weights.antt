@@ -8,7 +8,7 @@ use mathlib.Core.Bool.{true, false, true≢false}
 use lib.Ieee.{Float, nan, inf, fin, up, down, lt, of_bits}
 use lib.Ieee.Casts.{to_unsigned-lt}
 use borrow.Author.Tests.{ltb-false}
-use Rattle.ieee.specs.Parts.{is_finite}
+use Rattle.std.specs.Float.{float_is_finite}
 use Rattle.ieee.specs.Floats.{◌⊖◌, float, whole_part}
 use Rattle.ieee.proofs.Magnitudes.{Within, within_more, sub_within, float_within}
 use Rattle.ieee_whole.proofs.WholeGuess.{float_value}
@@ -32,7 +32,7 @@ all-four-is w h x y = refl
 -- ---- the fractions are not large
 
 pub between_within : (n : ℕ) (x : Float) → n < 2 ^ 53 → Between n x → Within n x
-unfolding is_finite lt of_bits
+unfolding float_is_finite lt of_bits
 between_within n nan N b = absurd (true≢false (sym b.finite))
 between_within n (inf s) N b = absurd (true≢false (sym b.finite))
 between_within n (fin true m e) N b = le_trans (none (m * up e * 1) (0 * 1 * down e) (ltb-false 0 (m * up e * 1 + 0 * 1 * down e) b.from) (mul-one (m * up e))) zero-le

@@ -72,8 +72,8 @@ viewed_footprint w h v q = point_footprint w h (seen v q)
 abbrev pub scene_footprint : Scene → SourcePixel → Footprint
 scene_footprint s q = viewed_footprint s.width s.height s.view q
 
--- The same by the steps of the camera alone, whose coordinates may be infinite or NaNs: a sample there is
--- rejected, as one at no place is (`carried_seen` of proofs/Carried).
+-- The same by the steps of the camera alone, whose coordinates may be infinite or NaNs: a sample
+-- there is rejected, as one at no place is (`carried_seen` of proofs/Carried).
 abbrev pub carried_through : View → SourcePixel → Option SourcePixel
 carried_through None q = Some q
 carried_through (Some c) q = carried c q

@@ -4,6 +4,7 @@ use mathlib.Core.Path.{◌≡◌, refl}
 use mathlib.Core.Bool.{Bool, true, false, cond, beq, true≢false}
 use lib.Dec.{eqb}
 use lib.Ieee.{Float, nan, inf, fin, neg, add, sub, mul, div, unlike}
+use Rattle.std.specs.Float.{float_is_finite}
 use Rattle.ieee.specs.Parts.{is_finite}
 use Rattle.ieee.specs.Floats.{◌⊕◌, ◌⊖◌, ◌⊗◌, ◌⊘◌}
 
@@ -12,25 +13,19 @@ Lost x = is_finite x ≡ false
 
 -- an infinity, or a NaN
 either : (b : Bool) (s : Bool) → Lost (cond b (inf s) nan)
-unfolding is_finite
+unfolding float_is_finite
 either true s = refl
 either false s = refl
 
 other : (b : Bool) (s : Bool) → Lost (cond b nan (inf s))
-unfolding is_finite
+unfolding float_is_finite
 other true s = refl
 other false s = refl
-
-pub lost_neg : (x : Float) → Lost x → Lost (neg x)
-unfolding is_finite neg
-lost_neg nan h = refl
-lost_neg (inf s) h = refl
-lost_neg (fin s m e) h = absurd (true≢false h)
 
 -- ---- the first
 
 pub lost_add : (x y : Float) → Lost x → Lost (x ⊕ y)
-unfolding is_finite add
+unfolding float_is_finite add
 lost_add nan y h = refl
 lost_add (inf s) nan h = refl
 lost_add (inf s) (inf t) h = either (beq s t) s
@@ -42,7 +37,7 @@ unfolding sub
 lost_sub x y h = lost_add x (neg y) h
 
 pub lost_mul : (x y : Float) → Lost x → Lost (x ⊗ y)
-unfolding is_finite mul
+unfolding float_is_finite mul
 lost_mul nan y h = refl
 lost_mul (inf s) nan h = refl
 lost_mul (inf s) (inf t) h = refl
@@ -50,7 +45,7 @@ lost_mul (inf s) (fin t n d) h = other (eqb n 0) (unlike s t)
 lost_mul (fin s m e) y h = absurd (true≢false h)
 
 pub lost_div : (x y : Float) → Lost x → Lost (x ⊘ y)
-unfolding is_finite div
+unfolding float_is_finite div
 lost_div nan y h = refl
 lost_div (inf s) nan h = refl
 lost_div (inf s) (inf t) h = refl
@@ -60,7 +55,7 @@ lost_div (fin s m e) y h = absurd (true≢false h)
 -- ---- the second
 
 pub add_lost : (x y : Float) → Lost y → Lost (x ⊕ y)
-unfolding is_finite add
+unfolding float_is_finite add
 add_lost nan y h = refl
 add_lost (inf s) y h = lost_add (inf s) y refl
 add_lost (fin s m e) nan h = refl
@@ -68,7 +63,7 @@ add_lost (fin s m e) (inf t) h = refl
 add_lost (fin s m e) (fin t n d) h = absurd (true≢false h)
 
 pub mul_lost : (x y : Float) → Lost y → Lost (x ⊗ y)
-unfolding is_finite mul
+unfolding float_is_finite mul
 mul_lost nan y h = refl
 mul_lost (inf s) y h = lost_mul (inf s) y refl
 mul_lost (fin s m e) nan h = refl

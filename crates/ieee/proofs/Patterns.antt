@@ -8,11 +8,11 @@ use lib.Dec.{T, leb, ltb, eqb, leb→le, ltb→lt, not_T}
 use lib.IntN.{ℤ, pos}
 use lib.Pow.{pow_pos, mod-mod-pow}
 use lib.Bits.{bit_and, and_mask}
-use lib.Ieee.{Float, nan, inf, fin, binary64, up, down, odd, fits, of_fields, of_bits, nan_bits, div}
+use lib.Ieee.{nan, inf, fin, binary64, up, down, odd, fits, of_fields, of_bits, nan_bits, div}
 use lib.Ieee.Fits.{and_l, and_r}
 use lib.Ieee.Bits.{nan_bits_above, is_false}
-use Rattle.std.specs.Float.{float_is_finite}
-use Rattle.ieee.specs.Parts.{magnitude, is_finite}
+use Rattle.std.specs.Float.{float_with_sign}
+use Rattle.ieee.specs.Parts.{magnitude}
 
 -- ---- a test's answer as a fact
 
@@ -57,12 +57,12 @@ unfolding of_bits
 of_bits_is b = refl
 
 magnitude_odd : (d : ℕ) (s : Bool) (q k l : ℕ) → magnitude (odd d s q k l) ≡ odd d false q k l
-unfolding magnitude odd
+unfolding float_with_sign odd
 magnitude_odd d s zero k l = refl
 magnitude_odd d s (suc q) k l = refl
 
 magnitude_cond : (a b s : Bool) (q k : ℕ) → magnitude (cond a (cond b (inf s) nan) (odd 53 s q k 1074)) ≡ cond a (cond b (inf false) nan) (odd 53 false q k 1074)
-unfolding magnitude
+unfolding float_with_sign
 magnitude_cond true true s q k = refl
 magnitude_cond true false s q k = refl
 magnitude_cond false b s q k = magnitude_odd 53 s q k 1074
@@ -82,13 +82,6 @@ magnitude-bits b =
     ∙ ap (λ (k : ℕ). of_fields binary64 false (a / 2 ^ 52) k) (mod-mod-pow b 11 52)
     ∙ sym (magnitude-fields (leb (2 ^ 63) b) (a / 2 ^ 52) (b % 2 ^ 52))
     ∙ ap magnitude (sym (of_bits_is b))
-
--- the library's test of finiteness is that of the definitions
-pub finite_is : (x : Float) → float_is_finite x ≡ is_finite x
-unfolding float_is_finite is_finite
-finite_is nan = refl
-finite_is (inf s) = refl
-finite_is (fin s m e) = refl
 
 -- ---- the values of the format
 

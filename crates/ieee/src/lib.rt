@@ -33,7 +33,6 @@ pub fn abs(x: f64) -> f64
 }
 
 // Whether x is neither a NaN nor an infinity.
-#[tactic(auto, using(crate::proofs::Patterns::finite_is))]
 pub fn is_finite(x: f64) -> bool
     ensures { result ≡ is_finite x }
 {

@@ -16,6 +16,7 @@ use lib.Ieee.{Float, nan, inf, fin, binary64, up, down, units, fits, to_bits}
 use lib.Ieee.Exact.{HasValue}
 use lib.Ieee.Fits.{down_pos}
 use lib.Ieee.Positive.{positive, above, value_pos}
+use Rattle.std.specs.Float.{float_is_finite}
 use Rattle.ieee.specs.Parts.{is_finite}
 use Rattle.ieee.proofs.Counts.{pow_le_back, in-units}
 use Rattle.ieee.proofs.Patterns.{fits-says}
@@ -40,7 +41,7 @@ positive_above (fin false m e) p = p
 -- ---- no root is finite of a value that is not
 
 pub lost_root : (x : Float) → is_finite x ≡ false → is_finite (root binary64 x) ≡ false
-unfolding is_finite root
+unfolding float_is_finite root
 lost_root nan h = refl
 lost_root (inf true) h = refl
 lost_root (inf false) h = refl

@@ -4,7 +4,7 @@ use native.Mathlib.Nat.{div-le_of_le-mul}
 use mathlib.Core.Bool.{beq}
 use lib.Ieee.{Float, nan, inf, fin, Format, prec, emax, low, binary64, up, down, odd, units, round, sum, add, lt, eq, le, is_nan, of_bits, to_unsigned}
 use Rattle.ieee.specs.Floats.{f0, ◌⊕◌, ◌≼◌}
-use Rattle.ieee.specs.Parts.{is_finite}
+use Rattle.std.specs.Float.{float_is_finite}
 use Rattle.ieee.proofs.Order.{zeros, else_more}
 use lib.Ieee.Fits.{down_pos}
 
@@ -40,7 +40,7 @@ capped (fin false m e) h = sym (above m (up e) (down e) (down_pos e) (plain-lt m
 
 -- below 0, or a NaN
 pub nothing : (x : Float) → (f0 ≼ x) ≡ false → 0 ≡ to_unsigned 32 x
-unfolding lt eq le of_bits to_unsigned is_finite
+unfolding lt eq le of_bits to_unsigned float_is_finite
 nothing nan h = refl
 nothing (inf true) h = refl
 nothing (inf false) h = absurd (true≢false h)

@@ -1,36 +1,13 @@
--- The library's `floor` and `ceil` of binary64 are the definitions', a ceiling is a floor from the other side, and from 2 ^ 53 on every value is whole. Assumes nothing.
-use Rattle.std.proofs.Common.{◌≡◌, ℕ, suc, ◌+◌, ◌-◌, ◌*◌, ◌/◌, ◌^◌, ◌<◌, Bool, true, false, T, pos, sym, refl, ap, ◌∙◌, subst, add-zero, zero-lt-suc, mul_assoc, mul-lt-mul_of_pos_right, mul-one, div-one, arith, pow_pos, pow-add}
-use Rattle.std.specs.Float.{floor, ceil, round_with}
+-- A ceiling is a floor from the other side, and from 2 ^ 53 on every value is whole. Assumes nothing.
+use Rattle.std.proofs.Common.{◌≡◌, ℕ, suc, ◌+◌, ◌-◌, ◌*◌, ◌^◌, ◌<◌, Bool, true, false, T, pos, sym, refl, ap, ◌∙◌, subst, zero-lt-suc, mul_assoc, mul-lt-mul_of_pos_right, mul-one, div-one, arith, pow_pos, pow-add}
+use Rattle.std.specs.Float.{round_with, ratio_floor, ratio_ceil}
 use lib.Ieee.{Float, nan, inf, fin, binary64, up, down, round, neg, fits}
-use lib.Ieee.Fits.{down_pos, round-fits}
+use lib.Ieee.Fits.{round-fits}
 use lib.Ieee.Exact.{round_exact}
 use lib.Ieee.Back.{whole_unique}
-use Rattle.ieee_whole.specs.Whole.{floor_div, ceil_div, floor_of, ceil_of}
+use Rattle.ieee_whole.specs.Whole.{floor_of, ceil_of}
 use Rattle.ieee.proofs.Magnitudes.{neg-round}
 use Rattle.ieee.proofs.Patterns.{fits-says}
-
--- ---- the library's
-
--- a fraction rounded up, as the library and as the definition write it
-raised : (a d : ℕ) → 0 < d → (a + d - 1) / d ≡ ceil_div a d
-raised a d h = ap (λ (k : ℕ). k / d) (regroup a d h)
-  where
-    regroup : (a d : ℕ) → 0 < d → a + d - 1 ≡ a + (d - 1)
-    regroup a d h = omega arith
-
-pub floor_is : (x : Float) → floor binary64 x ≡ floor_of x
-unfolding round_with floor_of
-floor_is nan = refl
-floor_is (inf s) = refl
-floor_is (fin true m e) = ap (λ (k : ℕ). round binary64 true k 1) (raised (m * up e) (down e) (down_pos e))
-floor_is (fin false m e) = refl
-
-pub ceil_is : (x : Float) → ceil binary64 x ≡ ceil_of x
-unfolding round_with ceil_of
-ceil_is nan = refl
-ceil_is (inf s) = refl
-ceil_is (fin true m e) = refl
-ceil_is (fin false m e) = ap (λ (k : ℕ). round binary64 false k 1) (raised (m * up e) (down e) (down_pos e))
 
 -- ---- from 2 ^ 53 on every value is whole
 
@@ -43,15 +20,18 @@ large_is s m k f =
     whole_unique binary64 (fin s (suc m) (pos k)) (round binary64 s a 1) s a f (round-fits binary64 s a 1) (refl, refl)
     (round_exact binary64 s a 1 (suc m) (k + 1074) (zero-lt-suc 0) h.0 fine (sym e1 ∙ sym (mul-one (suc m * 2 ^ (k + 1074)))))
 
-pub raised_one : (a : ℕ) → ceil_div a 1 ≡ a
-raised_one a = div-one (a + 0) ∙ add-zero a
+pub raised_one : (a : ℕ) → ratio_ceil a 1 ≡ a
+raised_one a = div-one (a + 1 - 1) ∙ same
+  where
+    same : a + 1 - 1 ≡ a
+    same = omega arith
 
 -- ---- a ceiling is a floor from the other side
 
 pub ceil-is : (x : Float) → neg (floor_of (neg x)) ≡ ceil_of x
-unfolding floor_of ceil_of neg
+unfolding round_with neg
 ceil-is nan = refl
 ceil-is (inf true) = refl
 ceil-is (inf false) = refl
-ceil-is (fin true m e) = neg-round binary64 false (floor_div (m * up e) (down e)) 1
-ceil-is (fin false m e) = neg-round binary64 true (ceil_div (m * up e) (down e)) 1
+ceil-is (fin true m e) = neg-round binary64 false (ratio_floor (m * up e) (down e)) 1
+ceil-is (fin false m e) = neg-round binary64 true (ratio_ceil (m * up e) (down e)) 1

@@ -8,6 +8,7 @@ use lib.Ieee.Back.{round_whole}
 use lib.Ieee.Order.{round_mono}
 use lib.Ieee.Fits.{down_pos, add-fits}
 use Rattle.ieee.specs.Floats.{◌⊖◌, ◌⊗◌, ◌≺◌, ◌≼◌, f0, f1, float}
+use Rattle.std.specs.Float.{float_is_finite}
 use Rattle.ieee.specs.Parts.{is_finite}
 use Rattle.ieee_whole.specs.Whole.{split_whole, if_between, split_between}
 use Rattle.ieee_whole.specs.declared.Split.{Split}
@@ -23,7 +24,7 @@ unfolding of_int
 float_value n h = round_whole binary64 false n (le_of_lt h)
 
 pub float-finite : (n : ℕ) → n < 2 ^ 53 → is_finite (float n) ≡ true
-unfolding is_finite
+unfolding float_is_finite
 float-finite n h = of-value (float n) (float_value n h)
   where
     of-value : (y : Float) → HasValue y false n 1 → is_finite y ≡ true
@@ -132,7 +133,7 @@ not_above a c = by (round binary64 true a c) (round_signed binary64 true a c)
 
 -- a y of w's value that leaves something above 0 of x is at most x
 leaves : (w : ℕ) (y x : Float) → HasValue y false w 1 → (f0 ≺ (x ⊖ y)) ≡ true → (y ≼ x) ≡ true
-unfolding neg sum add sub lt eq le of_bits is_finite
+unfolding neg sum add sub lt eq le of_bits float_is_finite
 leaves w nan x v h = absurd v
 leaves w (inf s) x v h = absurd v
 leaves w (fin true k d) x v h = absurd (true≢false v.0)

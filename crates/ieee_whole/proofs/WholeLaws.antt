@@ -6,7 +6,8 @@ use lib.Ieee.{Float, fin, binary64, up, down, round, fits, nan, inf, lt, eq, le}
 use lib.Ieee.Fits.{down_pos, round-fits}
 use lib.Ieee.Exact.{HasValue}
 use lib.Ieee.Back.{round_whole}
-use Rattle.ieee_whole.specs.Whole.{floor_div, ceil_div, floor_of, ceil_of}
+use Rattle.std.specs.Float.{round_with, ratio_floor, ratio_ceil}
+use Rattle.ieee_whole.specs.Whole.{floor_of, ceil_of}
 use Rattle.ieee.proofs.Patterns.{fits-says}
 use Rattle.ieee_whole.proofs.Whole.{large_is, raised_one}
 use Rattle.ieee.specs.Floats.{◌≼◌}
@@ -14,33 +15,33 @@ use Rattle.ieee_whole.proofs.AtMost.{AtMost, tested, test, scale, cancel}
 
 -- ---- a / c cut and raised
 
-pub cut_law : (a c : ℕ) → 0 < c → (floor_div a c * c ≤ a) × (a < (floor_div a c + 1) * c)
-cut_law a c h = (div-mul-le_self a c, lt_of_lt_of_le (go (floor_div a c * c) (a % c) (div-add-mod' a c) (mod-lt a h)) (le_of_eq (sym (add-mul (floor_div a c) 1 c ∙ ap (λ (z : ℕ). floor_div a c * c + z) (one-mul c)))))
+pub cut_law : (a c : ℕ) → 0 < c → (ratio_floor a c * c ≤ a) × (a < (ratio_floor a c + 1) * c)
+cut_law a c h = (div-mul-le_self a c, lt_of_lt_of_le (go (ratio_floor a c * c) (a % c) (div-add-mod' a c) (mod-lt a h)) (le_of_eq (sym (add-mul (ratio_floor a c) 1 c ∙ ap (λ (z : ℕ). ratio_floor a c * c + z) (one-mul c)))))
   where
     go : (p r : ℕ) → p + r ≡ a → r < c → a < p + c
     go p r e l = omega arith
 
-pub raised_law : (a c : ℕ) → 0 < c → (a ≤ ceil_div a c * c) × (ceil_div a c * c < a + c)
-raised_law a c h = go (ceil_div a c * c) ((a + (c - 1)) % c) (div-add-mod' (a + (c - 1)) c) (mod-lt (a + (c - 1)) h)
+pub raised_law : (a c : ℕ) → 0 < c → (a ≤ ratio_ceil a c * c) × (ratio_ceil a c * c < a + c)
+raised_law a c h = go (ratio_ceil a c * c) ((a + c - 1) % c) (div-add-mod' (a + c - 1) c) (mod-lt (a + c - 1) h)
   where
-    go : (p r : ℕ) → p + r ≡ a + (c - 1) → r < c → (a ≤ p) × (p < a + c)
+    go : (p r : ℕ) → p + r ≡ a + c - 1 → r < c → (a ≤ p) × (p < a + c)
     go p r e l = omega arith
 
 -- ---- the rounding in the definitions changes nothing
 
-raised_le : (a c b : ℕ) → 0 < c → a < b * c → ceil_div a c ≤ b
+raised_le : (a c b : ℕ) → 0 < c → a < b * c → ratio_ceil a c ≤ b
 raised_le a c b h l = native.Mathlib.Nat.le_of_suc-le-suc ((div-lt_iff_lt-mul h).1 (lt_of_lt_of_le (go (b * c) l) (le_of_eq (sym (native.Mathlib.Nat.suc-mul b c)))))
   where
-    go : (y : ℕ) → a < y → a + (c - 1) < y + c
+    go : (y : ℕ) → a < y → a + c - 1 < y + c
     go y l = omega arith
 
 module _ (s : Bool) where
   Both : ℕ → ℕ → Type 0
-  Both a c = HasValue (round binary64 s (floor_div a c) 1) s (floor_div a c) 1 × HasValue (round binary64 s (ceil_div a c) 1) s (ceil_div a c) 1
+  Both a c = HasValue (round binary64 s (ratio_floor a c) 1) s (ratio_floor a c) 1 × HasValue (round binary64 s (ratio_ceil a c) 1) s (ratio_ceil a c) 1
 
   small_both : (a c : ℕ) → 0 < c → a < 2 ^ 53 * c → Both a c
   unfolding Both
-  small_both a c h l = (round_whole binary64 s (floor_div a c) (le_of_lt ((div-lt_iff_lt-mul h).1 l)), round_whole binary64 s (ceil_div a c) (raised_le a c (2 ^ 53) h l))
+  small_both a c h l = (round_whole binary64 s (ratio_floor a c) (le_of_lt ((div-lt_iff_lt-mul h).1 l)), round_whole binary64 s (ratio_ceil a c) (raised_le a c (2 ^ 53) h l))
 
   large_both : (m k : ℕ) → T (fits binary64 (fin s (suc m) (pos k))) → Both (suc m * 2 ^ k) 1
   unfolding Both
@@ -58,30 +59,30 @@ module _ (s : Bool) where
       go (suc m) (pos k) f (yes l) = large_both m k f
       go (suc m) (negsuc k) f (yes l) = absurd (not-le_of_lt (fits-says s m (negsuc k) f).0 (le_trans (le_trans (le_of_eq (sym (mul-one (2 ^ 53)))) (native.Mathlib.Nat.mul-le-mul_left (2 ^ 53) (pow_pos (suc k)))) (le_trans l (le_of_eq (mul-one (suc m))))))
 
-  pub cut_exact : (m : ℕ) (e : ℤ) → T (fits binary64 (fin s m e)) → HasValue (round binary64 s (floor_div (m * up e) (down e)) 1) s (floor_div (m * up e) (down e)) 1
+  pub cut_exact : (m : ℕ) (e : ℤ) → T (fits binary64 (fin s m e)) → HasValue (round binary64 s (ratio_floor (m * up e) (down e)) 1) s (ratio_floor (m * up e) (down e)) 1
   unfolding Both
   cut_exact m e f = (both m e f).0
 
-  pub raised_exact : (m : ℕ) (e : ℤ) → T (fits binary64 (fin s m e)) → HasValue (round binary64 s (ceil_div (m * up e) (down e)) 1) s (ceil_div (m * up e) (down e)) 1
+  pub raised_exact : (m : ℕ) (e : ℤ) → T (fits binary64 (fin s m e)) → HasValue (round binary64 s (ratio_ceil (m * up e) (down e)) 1) s (ratio_ceil (m * up e) (down e)) 1
   unfolding Both
   raised_exact m e f = (both m e f).1
 
 -- ---- the two functions
 
-pub floor-value : (s : Bool) (m : ℕ) (e : ℤ) → T (fits binary64 (fin s m e)) → HasValue (floor_of (fin s m e)) s (cond s (ceil_div (m * up e) (down e)) (floor_div (m * up e) (down e))) 1
-unfolding floor_of
+pub floor-value : (s : Bool) (m : ℕ) (e : ℤ) → T (fits binary64 (fin s m e)) → HasValue (floor_of (fin s m e)) s (cond s (ratio_ceil (m * up e) (down e)) (ratio_floor (m * up e) (down e))) 1
+unfolding round_with
 floor-value true m e f = raised_exact true m e f
 floor-value false m e f = cut_exact false m e f
 
-pub ceil-value : (s : Bool) (m : ℕ) (e : ℤ) → T (fits binary64 (fin s m e)) → HasValue (ceil_of (fin s m e)) s (cond s (floor_div (m * up e) (down e)) (ceil_div (m * up e) (down e))) 1
-unfolding ceil_of
+pub ceil-value : (s : Bool) (m : ℕ) (e : ℤ) → T (fits binary64 (fin s m e)) → HasValue (ceil_of (fin s m e)) s (cond s (ratio_floor (m * up e) (down e)) (ratio_ceil (m * up e) (down e))) 1
+unfolding round_with
 ceil-value true m e f = cut_exact true m e f
 ceil-value false m e f = raised_exact false m e f
 
 -- ---- x's magnitude is a / c, and that of its floor is a whole number
 
 abbrev pub floor_to : Bool → ℕ → ℕ → ℕ
-floor_to s a c = cond s (ceil_div a c) (floor_div a c)
+floor_to s a c = cond s (ratio_ceil a c) (ratio_floor a c)
 
 floor-at-most : (s : Bool) (a c : ℕ) → 0 < c → AtMost s (floor_to s a c * c) s a
 floor-at-most false a c p = (cut_law a c p).0
@@ -97,21 +98,21 @@ floor_largest false j true a c p h = go (floor-of_none a c p (rest (j * c) a h))
     first : (u v : ℕ) → u + v ≡ 0 → u ≡ 0
     first u v h = omega arith
 
-    floor-of_none : (a c : ℕ) → 0 < c → a ≡ 0 → ceil_div a c ≡ 0
-    floor-of_none a c p h = ap (λ (z : ℕ). ceil_div z c) h ∙ native.Mathlib.Nat.div-eq_of_lt (less c p)
+    floor-of_none : (a c : ℕ) → 0 < c → a ≡ 0 → ratio_ceil a c ≡ 0
+    floor-of_none a c p h = ap (λ (z : ℕ). ratio_ceil z c) h ∙ native.Mathlib.Nat.div-eq_of_lt (less c p)
       where
-        less : (c : ℕ) → 0 < c → 0 + (c - 1) < c
+        less : (c : ℕ) → 0 < c → 0 + c - 1 < c
         less c p = omega arith
 
-    go : ceil_div a c ≡ 0 → j ≡ 0 → j + ceil_div a c ≡ 0
+    go : ratio_ceil a c ≡ 0 → j ≡ 0 → j + ratio_ceil a c ≡ 0
     go u v = rw (u, v)
 floor_largest true j false a c p h = tt
 floor_largest true j true a c p h = raised_most a c j p h
   where
-    raised_most : (a c j : ℕ) → 0 < c → a ≤ j * c → ceil_div a c ≤ j
+    raised_most : (a c j : ℕ) → 0 < c → a ≤ j * c → ratio_ceil a c ≤ j
     raised_most a c j p h = native.Mathlib.Nat.le_of_suc-le-suc ((native.Mathlib.Nat.div-lt_iff_lt-mul p).1 (lt_of_lt_of_le (go (j * c) h) (le_of_eq (sym (native.Mathlib.Nat.suc-mul j c)))))
       where
-        go : (y : ℕ) → a ≤ y → a + (c - 1) < y + c
+        go : (y : ℕ) → a ≤ y → a + c - 1 < y + c
         go y l = omega arith
 
 -- ---- floor: at most x, and the largest such whole number
@@ -151,5 +152,6 @@ largest_whole s m e (fin t n d) h (fin u p g) v j w l =
     (subst (λ (z : ℕ). AtMost u z s (n * up d * down g)) left (subst (λ (z : ℕ). AtMost u (j * (down g * down d)) s z) right over)))
 
 pub floor-fits : (s : Bool) (m : ℕ) (e : ℤ) → T (fits binary64 (floor_of (fin s m e)))
-unfolding floor_of
-floor-fits s m e = round-fits binary64 s (floor_to s (m * up e) (down e)) 1
+unfolding round_with
+floor-fits true m e = round-fits binary64 true (floor_to true (m * up e) (down e)) 1
+floor-fits false m e = round-fits binary64 false (floor_to false (m * up e) (down e)) 1

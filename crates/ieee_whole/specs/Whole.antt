@@ -1,33 +1,17 @@
--- What the functions of `ieee_whole` compute: Rust's `floor`, `ceil` and `as u32` of `f64`. Definitions only, to be
--- believed. A value is one of the library's `Float`: `nan`, an infinity `inf s`, or `fin s m e`, the number m * 2 ^ e, negative
--- where s is true; 2 ^ e is the fraction up e / down e.
-use Rattle.std.specs.Prelude.{ℕ, ◌+◌, ◌-◌, ◌*◌, ◌/◌, cond, ◌&&◌, Float, Option, Some, None}
-use Rattle.std.specs.Float.{nan, inf, fin, binary64}
-use Rattle.std.specs.Float.Ieee.{up, down, round}
+-- What the functions of `ieee_whole` compute: Rust's `floor`, `ceil` and `as u32` of `f64`. The first two are the
+-- library's. Definitions only, to be believed.
+use Rattle.std.specs.Prelude.{cond, ◌&&◌, Float, Option, Some, None}
+use Rattle.std.specs.Float.{floor, ceil, binary64}
 use Rattle.ieee.specs.Floats.{◌⊖◌, ◌≺◌, f0, f1, float, whole_part}
 use Rattle.ieee_whole.specs.declared.Split.{Split}
 
--- a / c cut to a whole number
-abbrev pub floor_div : ℕ → ℕ → ℕ
-floor_div a c = a / c
+-- the largest whole number that is at most x, with x's sign
+abbrev pub floor_of : Float → Float
+floor_of x = floor binary64 x
 
--- the smallest whole number that is at least a / c
-abbrev pub ceil_div : ℕ → ℕ → ℕ
-ceil_div a c = (a + (c - 1)) / c
-
--- The largest whole number that is at most x, with x's sign: of a negative x the magnitude goes up.
-unfoldable pub floor_of : Float → Float
-unfolding round
-floor_of nan = nan
-floor_of (inf s) = inf s
-floor_of (fin s m e) = round binary64 s (cond s (ceil_div (m * up e) (down e)) (floor_div (m * up e) (down e))) 1
-
--- The smallest whole number that is at least x, with x's sign.
-unfoldable pub ceil_of : Float → Float
-unfolding round
-ceil_of nan = nan
-ceil_of (inf s) = inf s
-ceil_of (fin s m e) = round binary64 s (cond s (floor_div (m * up e) (down e)) (ceil_div (m * up e) (down e))) 1
+-- the smallest whole number that is at least x, with x's sign
+abbrev pub ceil_of : Float → Float
+ceil_of x = ceil binary64 x
 
 -- x's whole part, and what is left of x
 abbrev pub split_whole : Float → Split

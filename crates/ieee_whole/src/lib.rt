@@ -14,7 +14,6 @@ pub struct Split {
 }
 
 // The largest whole number that is at most x.
-#[tactic(auto, using(crate::proofs::Whole::floor_is))]
 pub fn floor(x: f64) -> f64
     ensures { result ≡ floor_of x }
 {
@@ -22,7 +21,6 @@ pub fn floor(x: f64) -> f64
 }
 
 // The smallest whole number that is at least x.
-#[tactic(auto, using(crate::proofs::Whole::ceil_is))]
 pub fn ceil(x: f64) -> f64
     ensures { result ≡ ceil_of x }
 {

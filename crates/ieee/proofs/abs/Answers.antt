@@ -5,6 +5,7 @@ use lib.Bits.{bit_and}
 use lib.Dec.{T}
 use lib.Ieee.{Float, nan, inf, fin, binary64, to_bits, of_bits, fits, is_nan}
 use lib.Ieee.Bits.{of_bits-to_bits, nan_bits_is}
+use Rattle.std.specs.Float.{float_with_sign}
 use Rattle.ieee.specs.Parts.{magnitude}
 use Rattle.ieee.proofs.Patterns.{yes, unsigned, magnitude-bits}
 use Rattle.ieee.proofs.abs.Goals as goal
@@ -13,13 +14,13 @@ cleared : (x : Float) → T (fits binary64 x) → of_bits binary64 (bit_and (to_
 cleared x f = ap (of_bits binary64) (unsigned (to_bits binary64 x)) ∙ magnitude-bits (to_bits binary64 x) ∙ ap magnitude (of_bits-to_bits binary64 x f)
 
 same_nan : (x : Float) → is_nan x ≡ is_nan (magnitude x)
-unfolding is_nan magnitude
+unfolding is_nan float_with_sign
 same_nan nan = refl
 same_nan (inf s) = refl
 same_nan (fin s m e) = refl
 
 of_nan : (x : Float) → true ≡ is_nan x → x ≡ magnitude x
-unfolding is_nan magnitude
+unfolding is_nan float_with_sign
 of_nan nan h = refl
 of_nan (inf s) h = absurd (true≢false h)
 of_nan (fin s m e) h = absurd (true≢false h)
