@@ -1,8 +1,9 @@
 /* Trufolmesca: the corners of a QR label on a photograph to a fraction of a pixel, and the pixels
-   that they rest on. Link libtrufolmesca.a or libtrufolmesca.so, which `make` builds; x86-64 Linux.
+   that they rest on; and the smoothing of a sherd's scan. Link libtrufolmesca.a or
+   libtrufolmesca.so, which `make` builds; x86-64 Linux.
 
    The short way is a struct trufolmesca_request and the two calls over it, at the end;
-   trufolmesca_word says a number in words. These are C of this header. The 17 calls before them are
+   trufolmesca_word says a number in words. These are C of this header. The 19 calls before them are
    the library's, each proved to meet its contract.
 
    Calling it: a call needs less than 10 KB (10,240 bytes) of stack, takes no memory, keeps no state
@@ -21,8 +22,9 @@
    are left out, so that no length is undefined behaviour. Such a NaN is treated as any other: a
    refinement refuses it, 5 in the corners and 6 in a camera, and a call that takes any floats
    computes with it: trufolmesca_square_to_quad of an empty list returns 0, and a map with NaNs.
-   Lists and buffers must not overlap a buffer of the same call, and a pointer is not null, also
-   where its length is 0.
+   The two calls that smooth a scan differ: a refusal writes nothing, and a buffer that is too short
+   is refused. Lists and buffers must not overlap a buffer of the same call, and a pointer is not
+   null, also where its length is 0.
 
    Lists:
      corners  x0, y0 to x3, y3: top left, top right, bottom right, bottom left
@@ -33,6 +35,7 @@
      modules  one byte a module by rows, 1 dark
      map      a11, a21, a31, a12, a22, a32, a13, a23, a33
      line     the centroid's x and y, then the direction's
+     scan     heights in whole units, 0 to 65535, in the order in which they were scanned
    Buffers:
      places   as corners, in source pixels, which are the photograph's; of a call through a camera
               they are in rectified pixels, those of the picture that the camera rectifies to, and
@@ -101,7 +104,11 @@ enum {
     /* There is no edge point along the profile. */
     TRUFOLMESCA_PROFILE = 19,
     /* The rectified place has no counterpart in the photograph. */
-    TRUFOLMESCA_PLACE = 20
+    TRUFOLMESCA_PLACE = 20,
+    /* A window is even, below 3 or above 31. */
+    TRUFOLMESCA_WINDOW = 21,
+    /* A smoothed scan does not fit where it is to be written. */
+    TRUFOLMESCA_ROOM = 22
 };
 
 /* The kind of a camera's lens: none; by Brown and Conrady, with k1, k2, p1, p2, k3; fisheye, with
@@ -211,6 +218,14 @@ TRUFOLMESCA_CALL uint32_t trufolmesca_localize_edge_point_mapped(
     const double *camera, size_t camera_len, uint32_t lens,
     double *point, size_t point_len);
 
+/* A scan, smoothed: each height becomes the mean, rounded down, of the `window` heights around it,
+   or of those among them that the scan has; window is odd, from 3 to 31. To a second buffer, whose
+   heights behind the scan's stay as they were: 21, 22. Or over the scan itself: 21. Both give the
+   same heights, each worked out from the scan as it was. */
+TRUFOLMESCA_CALL uint32_t trufolmesca_smooth_to(
+    const uint16_t *scan, size_t scan_len, uint32_t window, uint16_t *out, size_t out_len);
+TRUFOLMESCA_CALL uint32_t trufolmesca_smooth_over(uint16_t *scan, size_t scan_len, uint32_t window);
+
 /* The square root, rounded once. */
 double trufolmesca_sqrt(double x);
 
@@ -242,6 +257,8 @@ static inline const char *trufolmesca_word(uint32_t number) {
     case TRUFOLMESCA_PARALLEL: return "the two lines are parallel";
     case TRUFOLMESCA_PROFILE: return "there is no edge along this profile";
     case TRUFOLMESCA_PLACE: return "the place has no counterpart in the photograph";
+    case TRUFOLMESCA_WINDOW: return "the window is not an odd number from 3 to 31";
+    case TRUFOLMESCA_ROOM: return "the smoothed scan does not fit where it is to be written";
     default: return "a number that this version does not know";
     }
 }

@@ -1,4 +1,4 @@
-"""The command line: measure, verify, report."""
+"""The command line: measure, verify, report, smooth."""
 from __future__ import annotations
 
 import argparse
@@ -11,7 +11,7 @@ import numpy as np
 import trufolmesca
 from trufolmesca import LibraryMissing, load_library
 
-from tool import Unanswered, reason
+from tool import Unanswered, printable, reason
 from tool.camera import read_camera
 from tool.many import measure_many, write_summary
 from tool.measure import Options
@@ -26,6 +26,7 @@ and anyone can run the measurement again on it.
   ./trufolmesca measure PHOTO.. --out DIR    measure photographs
   ./trufolmesca verify DIR                   run again over the published copies, and compare
   ./trufolmesca report DIR                   one page with all results, DIR/index.html
+  ./trufolmesca smooth FILE.csv --window N   smooth the scan of a sherd's profile, with a plot
 
 docs/GUIDE.md explains the terms, and every number in words.
 """
@@ -54,6 +55,20 @@ NAME.sheet.png, and never the photograph.
 """
 
 VERIFY_STATUS = "Exit status: 0 all the same, 1 something differs, in words, 2 the command itself was wrong."
+
+
+SMOOTH = """\
+Smooths a scan: each height becomes the mean, rounded down, of the N heights around it, or of those
+among them that the scan has. All are worked out from the scan as it was.
+
+FILE.csv has a record a line, its cells parted by commas, semicolons or tabs: a position and a
+height, or a height alone; or more columns, of which one is headed `height` or named by --column.
+Heights are whole numbers from 0 to 65535. A heading is optional, and lines that begin with # are
+remarks. It writes FILE-smoothed.csv, which is the file with a column `smoothed_N` behind all others
+and else unchanged, and FILE-smoothed.png, a plot of the heights before and after.
+"""
+
+SMOOTH_STATUS = "Exit status: 0 smoothed, 1 the file was refused, in words, 2 the command itself was wrong."
 
 
 class _Parser(argparse.ArgumentParser):
@@ -126,7 +141,7 @@ def parser() -> argparse.ArgumentParser:
     raw = argparse.RawDescriptionHelpFormatter
     words = _Parser(prog="trufolmesca", description=DESCRIPTION, formatter_class=raw)
     words.add_argument("--version", action="version", version=f"%(prog)s {trufolmesca.__version__}")
-    commands = words.add_subparsers(dest="command", required=True, metavar="measure | verify | report")
+    commands = words.add_subparsers(dest="command", required=True, metavar="measure | verify | report | smooth")
     _measure_words(commands.add_parser("measure", help="measure the labels of photographs", description=MEASURE,
                                        epilog=MEASURE_STATUS, formatter_class=raw))
     verify = commands.add_parser("verify", help="run again over the published copies", description=VERIFY,
@@ -136,6 +151,8 @@ def parser() -> argparse.ArgumentParser:
                                  description="Writes DIR/index.html: one page with all results, which needs no other file. "
                                              "Writes DIR/summary.csv anew too, where several runs have filled DIR.")
     report.add_argument("directory", type=Path, metavar="DIR", help="where measure wrote")
+    _smooth_words(commands.add_parser("smooth", help="smooth the scan of a sherd's profile", description=SMOOTH,
+                                      epilog=SMOOTH_STATUS, formatter_class=raw))
     return words
 
 
@@ -158,6 +175,15 @@ def _measure_words(measure: argparse.ArgumentParser) -> None:
     measure.add_argument("--jobs", type=worker_count, metavar="N", help="photographs worked on at a time")
 
 
+def _smooth_words(smooth: argparse.ArgumentParser) -> None:
+    """The options of smooth."""
+    smooth.add_argument("file", type=Path, metavar="FILE.csv", help="the scan")
+    smooth.add_argument("--window", required=True, type=int, metavar="N",
+                        help="over how many heights the mean goes: an odd number from 3 to 31")
+    smooth.add_argument("--column", metavar="NAME", help="the heading of the heights' column, or its number from 1 on")
+    smooth.add_argument("--out", type=Path, metavar="FILE", help="the table to write; the plot has .png for its ending")
+
+
 def main(arguments: list[str] | None = None) -> int:
     """Runs a command and gives its exit status."""
     try:
@@ -167,7 +193,7 @@ def main(arguments: list[str] | None = None) -> int:
     try:
         if asked.command != "report":
             load_library()  # said at once where it is missing, and not for each photograph
-        return {"measure": _measure, "verify": _verify, "report": _report}[asked.command](asked)
+        return {"measure": _measure, "verify": _verify, "report": _report, "smooth": _smooth}[asked.command](asked)
     except (Unanswered, LibraryMissing) as why:
         print(f"trufolmesca: {why}", file=sys.stderr)
         return BAD_USAGE
@@ -205,6 +231,21 @@ def _report(asked: argparse.Namespace) -> int:
     from tool.report import write_report
     write_summary(_existing(asked.directory))
     print(write_report(asked.directory))
+    return ANSWERED
+
+
+def _smooth(asked: argparse.Namespace) -> int:
+    """The command smooth."""
+    from tool.scan import smooth_file
+    try:
+        trufolmesca.smooth_to([], asked.window)  # the window comes first, also before a file that cannot be read
+    except trufolmesca.Refused as refusal:
+        raise Unanswered(f"--window {asked.window}: {refusal}") from None
+    try:
+        print(smooth_file(asked.file, asked.window, asked.column, asked.out))
+    except Unanswered as why:
+        print(f"trufolmesca: {printable(str(asked.file))}: {printable(str(why))}", file=sys.stderr)
+        return SOME_REFUSED
     return ANSWERED
 
 

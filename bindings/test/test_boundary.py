@@ -11,7 +11,7 @@ HERE = Path(__file__).resolve().parent / "boundary"
 FLAGS = ["-O2", "-std=c11", "-D_GNU_SOURCE", "-pthread", "-Wall", "-Wextra", "-Wpedantic", "-Wconversion", "-Werror"]
 STACK = 10 * 1024  # bytes that the header promises to suffice
 LISTS = {"BYTES": "bytes", "MODULES": "modules", "FIRST": "the first list", "SECOND": "the second list", "THIRD": "the third list",
-         "VALUES": "values", "COUNTS": "counts", "SHEET": "the sheet", "COPY": "the copy"}
+         "SCAN": "the scan", "VALUES": "values", "COUNTS": "counts", "SHEET": "the sheet", "COPY": "the copy", "HEIGHTS": "the heights"}
 JOBS = 300_000  # each is two calls: lists at the front and at the back of their pages
 
 
@@ -69,7 +69,7 @@ def test_calls_touch_what_they_are_lent_alone(boundary):
     assert done.returncode == 0, done.stdout
     assert done.stdout.endswith(f"\n{2 * JOBS} calls, 0 numbers not reached\n")
     tally = tally_of(done.stdout)
-    assert len(tally) == 17 and sum(sum(counts.values()) for counts in tally.values()) == 2 * JOBS >= 500_000
+    assert len(tally) == 19 and sum(sum(counts.values()) for counts in tally.values()) == 2 * JOBS >= 500_000
     for name, counts in tally.items():
         behind_the_checks = sum(times for number, times in counts.items() if number == 0 or number >= 8)
         assert behind_the_checks > sum(counts.values()) / 2, f"{name} is mostly refused at its entry"
@@ -85,7 +85,7 @@ def test_ten_kilobytes_of_stack_suffice(boundary):
     done = ran(boundary, "stack", 3, 30_000)
     assert done.returncode == 0, done.stdout
     used = stack_of(done.stdout)
-    assert len(used) == 17 and max(used.values()) <= STACK
+    assert len(used) == 19 and max(used.values()) <= STACK
 
 
 def test_ten_kilobytes_suffice_for_the_shared_object(home, objects, library):
@@ -93,7 +93,7 @@ def test_ten_kilobytes_suffice_for_the_shared_object(home, objects, library):
     program = link(home / "boundary_shared", *objects, library, f"-Wl,-rpath,{library.parent}")
     done = ran(program, "stack", 1, 6000)
     assert done.returncode == 0, done.stdout
-    assert len(stack_of(done.stdout)) == 17
+    assert len(stack_of(done.stdout)) == 19
 
 
 @pytest.fixture(scope="module")
@@ -118,11 +118,13 @@ def test_a_byte_too_far_is_found_in_every_list(faulty, where):
     ("WRITES_BEHIND_VALUES", "VALUES", "calls", 1, "WRONG: the values are not written as the header says"),
     ("WRITES_A_LIST", "BYTES", "calls", 1, "WRONG: a list that is read was changed"),
     ("WRITES_A_LIST", "THIRD", "calls", 1, "WRONG: a list that is read was changed"),
+    ("WRITES_A_LIST", "SCAN", "calls", 1, "WRONG: a list that is read was changed"),
     ("MARKS_A_REFUSAL", "SHEET", "calls", 1, "WRONG: the sheet was written where it must stay"),
     ("MARKS_A_REFUSAL", "COPY", "calls", 1, "WRONG: the copy was written where it must stay"),
     ("LEAVES_OUT", "VALUES", "calls", 1, "WRONG: the values are not written as the header says"),
     ("LEAVES_OUT", "COUNTS", "calls", 1, "WRONG: the counts are not written as the header says"),
     ("LEAVES_OUT", "SHEET", "calls", 1, "WRONG: "),
+    ("LEAVES_OUT", "HEIGHTS", "calls", 1, "WRONG: the scan is not smoothed as the header says"),
     ("GOES_BY_ADDRESS", "VALUES", "calls", 1, "WRONG: the answer depends on where the lists lie"),
     ("NEEDS_STACK", "VALUES", "stack", 3, "FAULT\n"),
     ("KEEPS_STATE", "VALUES", "threads", 1, "WRONG: "),

@@ -52,15 +52,17 @@ def warned_lines(source: str, home: Path, root: Path, compiler: str, language: s
 
 def program(lines: list[str]) -> str:
     """A program that makes these calls, the first in its fifth line."""
-    names = "const uint8_t *in_bytes, const double *in_floats, uint8_t *bytes, double *floats, uint32_t *counts"
+    lists = "const uint8_t *in_bytes, const uint16_t *in_heights, const double *in_floats"
+    names = f"{lists}, uint8_t *bytes, uint16_t *heights, double *floats, uint32_t *counts"
     return "\n".join(["#include <trufolmesca.h>", f"void calls({names});", f"void calls({names}) {{",
-                      "(void)in_bytes, (void)in_floats, (void)bytes, (void)floats, (void)counts;", *lines, "}", ""])
+                      "(void)in_bytes, (void)in_heights, (void)in_floats, (void)bytes, (void)heights, (void)floats, (void)counts;", *lines, "}", ""])
 
 
 def argument(parameter: str) -> str:
     """Something to pass for a parameter."""
     kind = parameter.rsplit(" ", 1)[0] + ("*" if "*" in parameter else "")
-    pointers = {"const uint8_t*": "in_bytes", "const double*": "in_floats", "uint8_t*": "bytes", "double*": "floats", "uint32_t*": "counts"}
+    pointers = {"const uint8_t*": "in_bytes", "const uint16_t*": "in_heights", "const double*": "in_floats",
+                "uint8_t*": "bytes", "uint16_t*": "heights", "double*": "floats", "uint32_t*": "counts"}
     return pointers.get(kind, "0")
 
 
@@ -79,7 +81,7 @@ def test_a_number_that_is_left_unread_is_warned_of(compiler, language, standard,
     short = ["trufolmesca_refine(&r, &a);", "trufolmesca_refine_marking(&r, &a, bytes, 0, bytes, 0);"]
     source = program([*calls, *short]).replace("(void)in_bytes", f"{request} (void)in_bytes")
     warned = warned_lines(source, tmp_path, root, compiler, language, standard, "unused-result")
-    assert len(calls) == 12 and warned == set(range(5, 5 + len(calls) + 2))
+    assert len(calls) == 14 and warned == set(range(5, 5 + len(calls) + 2))
 
 
 @each_compiler
@@ -91,7 +93,7 @@ def test_a_null_pointer_is_warned_of(compiler, language, standard, tmp_path, roo
             passed = ", ".join([*given[:at], "NULL", *given[at + 1:]])
             calls.append(f"{'' if result == 'void' else 'counts[0] = '}trufolmesca_{name}({passed});")
     warned = warned_lines(program(calls), tmp_path, root, compiler, language, standard, "nonnull")
-    assert len(calls) == 55 and warned == set(range(5, 5 + len(calls)))
+    assert len(calls) == 58 and warned == set(range(5, 5 + len(calls)))
 
 
 def printed(body: str, tmp_path, root, archive) -> list[str]:
@@ -109,15 +111,15 @@ def test_the_version_is_that_of_the_repository(version, tmp_path, root, archive)
 
 
 def test_the_words_are_those_of_the_tool(tmp_path, root, archive):
-    lines = printed("for (uint32_t n = 0; n < 23; ++n) puts(trufolmesca_word(n));", tmp_path, root, archive)
-    assert dict(enumerate(lines[:21])) == WORDS
-    assert set(lines[21:]) == {"a number that this version does not know"}
+    lines = printed("for (uint32_t n = 0; n < 25; ++n) puts(trufolmesca_word(n));", tmp_path, root, archive)
+    assert dict(enumerate(lines[:23])) == WORDS
+    assert set(lines[23:]) == {"a number that this version does not know"}
 
 
 def test_every_number_has_a_comment_of_its_own(root):
     header = (root / "bindings/trufolmesca.h").read_text()
     commented = re.findall(r"^    /\* \S.*\. \*/\n    TRUFOLMESCA_\w+ = (\d+),?$", header, re.M)
-    assert [int(number) for number in commented] == list(range(21))
+    assert [int(number) for number in commented] == list(range(23))
 
 
 def test_calls_over_a_request_give_what_the_long_calls_give(tmp_path, root, archive):

@@ -34,8 +34,9 @@ def test_the_page_has_every_call_of_the_header():
         assert re.findall(r'"([^"]*)"', shown) == parameters, name
 
 
-def test_the_tools_page_has_every_option():
-    shown = run("/usr/bin/python3", ROOT / "trufolmesca", "measure", "--help").stdout
+@pytest.mark.parametrize("command, one", [("measure", "--side-mm"), ("smooth", "--window")])
+def test_the_tools_page_has_every_option(command, one):
+    shown = run("/usr/bin/python3", ROOT / "trufolmesca", command, "--help").stdout
     options = set(re.findall(r"--[a-z-]+", shown))
     page = PAGES[0].read_text().replace("\\-", "-")
-    assert "--side-mm" in options and all(f"Fl {option[1:]}" in page for option in options)
+    assert one in options and all(f"Fl {option[1:]}" in page for option in options)

@@ -22,6 +22,7 @@ from trufolmesca.arguments import photograph_arguments
 PLAIN = Intrinsics(300.0, 300.0, 120.0, 120.0)
 CAMERA = Camera(PLAIN, PLAIN)
 NAN_CORNERS = np.full((4, 2), np.nan)
+SCAN = np.zeros(5, np.uint16)
 C_TYPES = {"uint32_t": ctypes.c_uint32, "uint8_t": ctypes.c_uint8, "size_t": ctypes.c_size_t, "double": ctypes.c_double,
            "bool": ctypes.c_bool, "void": None}
 
@@ -151,6 +152,36 @@ def test_a_place_behind_a_fisheye(example):
     assert printed(again) == printed(marked) and (again.marks.sheet == marked.marks.sheet).all()
 
 
+def mean_around(scan: list[int], i: int, reach: int) -> int:
+    """The mean of the heights up to `reach` from i, rounded down."""
+    heights = scan[max(0, i - reach):i + reach + 1]
+    return sum(heights) // len(heights)
+
+
+@pytest.mark.parametrize("window", [3, 5, 31])
+@pytest.mark.parametrize("length", [0, 1, 2, 3, 16, 31, 32, 100])
+def test_a_scan_is_smoothed_in_every_way_alike(window, length):
+    scan = [(i * i * 7919 + 65000 * (i % 3)) % 65536 for i in range(length)]
+    expected = [mean_around(scan, i, window // 2) for i in range(length)]
+    assert trufolmesca.smooth_to(scan, window).tolist() == expected
+    assert trufolmesca.smooth_to(np.repeat(np.array(scan, np.uint16), 2)[::2], np.uint8(window)).tolist() == expected
+    out = np.full(length + 3, 7, np.uint16)
+    assert trufolmesca.smooth_to(np.array(scan, np.uint16), window, out) is out and out.tolist() == expected + [7] * 3
+    over = np.array(scan, np.uint16)
+    trufolmesca.smooth_over(over, window)
+    assert over.tolist() == expected
+
+
+def test_a_scan_that_is_refused_stays():
+    scan, short = np.array([9, 8, 7], np.uint16), np.array([5, 5], np.uint16)
+    for window in (0, 1, 2, 4, 32, 33, -3, 2 ** 32 + 3):
+        assert refusal_of(trufolmesca.smooth_to, scan, window, short).number == Number.WINDOW
+        assert refusal_of(trufolmesca.smooth_over, scan, window).number == Number.WINDOW
+    assert refusal_of(trufolmesca.smooth_to, [], 2).number == Number.WINDOW
+    assert refusal_of(trufolmesca.smooth_to, scan, 3, short).number == Number.ROOM
+    assert scan.tolist() == [9, 8, 7] and short.tolist() == [5, 5]
+
+
 # ---- refusals
 
 
@@ -262,6 +293,17 @@ def placed(camera: object = CAMERA, x: object = 1, y: object = 2) -> tuple[float
     (lambda p: trufolmesca.fit_line_tls_weighted([[1, 2], [3, 4]], 1), ValueError, r"the weights: the shape is \(\), not n"),
     (lambda p: trufolmesca.intersect_lines((0, 1), (1, 0)), TypeError, "the first is of class Line, not tuple"),
     (lambda p: trufolmesca.intersect_lines(Line((0, 0), (1, 0)), Line((0, 0), (1, 0, 2))), ValueError, "the second: the rows have"),
+    (lambda p: trufolmesca.smooth_to([1, -1], 3), ValueError, "the scan: a height is a whole number from 0 to 65535"),
+    (lambda p: trufolmesca.smooth_to([1, 65536], 3), ValueError, "the scan: a height is a whole number from 0 to 65535"),
+    (lambda p: trufolmesca.smooth_to([1.5], 3), TypeError, "the scan: whole numbers are wanted, not float64"),
+    (lambda p: trufolmesca.smooth_to(p, 3), ValueError, r"the scan: the shape is \(240, 240\), not n"),
+    (lambda p: trufolmesca.smooth_to([1], 3.0), TypeError, "integer"),
+    (lambda p: trufolmesca.smooth_to([1], 3, [0]), TypeError, "out is of class ndarray, not list"),
+    (lambda p: trufolmesca.smooth_to([1], 3, np.zeros(1)), TypeError, "out is of float64, not of uint16"),
+    (lambda p: trufolmesca.smooth_to([1], 3, np.zeros(4, np.uint16)[::2]), ValueError, "out is not one list of heights"),
+    (lambda p: trufolmesca.smooth_over(np.frombuffer(b"abcd", np.uint16), 3), ValueError, "the scan is not one list of heights"),
+    (lambda p: trufolmesca.smooth_over([1, 2, 3], 3), TypeError, "the scan is of class ndarray, not list"),
+    (lambda p: trufolmesca.smooth_to(SCAN[1:], 3, SCAN), ValueError, "out is a part of the scan: smooth_over"),
     (lambda p: trufolmesca.sqrt(None), TypeError, "x: numbers are wanted")])
 def test_other_arguments_of_another_kind_are_said(example, call, error, said):
     with pytest.raises(error, match=said):

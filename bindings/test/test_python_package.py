@@ -39,11 +39,9 @@ def tree_of(root: Path, tree: Path) -> Path:
 
 
 def example(root: Path) -> tuple[str, str]:
-    """The README's program, and what it says that it prints."""
+    """The README's programs as one, and what it says that they print."""
     text = (root / "bindings/python/README.md").read_text()
-    program, = re.findall(r"```python\n(.*?)```", text, re.S)
-    output, = re.findall(r"```text\n(.*?)```", text, re.S)
-    return program, output
+    return "".join(re.findall(r"```python\n(.*?)```", text, re.S)), "".join(re.findall(r"```text\n(.*?)```", text, re.S))
 
 
 @pytest.fixture(scope="module")

@@ -19,7 +19,8 @@ def run_alone(*words: object, **how) -> subprocess.CompletedProcess:
     return subprocess.run([ROOT / "trufolmesca", *words], stdout=subprocess.PIPE, text=True, **how)
 
 
-@pytest.mark.parametrize("words", [("--help",), ("measure", "--help"), ("verify", "--help"), ("report", "--help")])
+@pytest.mark.parametrize("words", [("--help",), ("measure", "--help"), ("verify", "--help"), ("report", "--help"),
+                                   ("smooth", "--help")])
 def test_help_fits_a_terminal(archive, words, monkeypatch):
     monkeypatch.setenv("COLUMNS", "100")
     assert archive.run(*words) == 0
@@ -40,7 +41,9 @@ def test_the_version_is_the_bindings(archive):
     (("measure", "a.png", "--out", "o", "--prepare", "-1"), "above 0 and up to 50"),
     (("measure", "a.png", "--out", "o", "--jobs", "0"), "not a number of workers"),
     (("measure", "a.png", "--out", "o", "--grid", "none.grid"), "cannot be read as a text file"),
-    (("measure", "a.png", "--out", "/dev/null/o"), "cannot be made")])
+    (("measure", "a.png", "--out", "/dev/null/o"), "cannot be made"),
+    (("smooth", "a.csv"), "--window"), (("smooth", "a.csv", "--window", "3.0"), "invalid int value"),
+    (("smooth", "--window", "3"), "FILE.csv")])
 def test_bad_usage_is_status_2_in_words(archive, words, said):
     assert archive.run(*words) == 2
     assert said in archive.complained and "Traceback" not in archive.complained

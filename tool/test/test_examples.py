@@ -1,4 +1,4 @@
-"""The example photograph: its corners are those with which it was drawn, and its picture of panels can be drawn."""
+"""The examples: the photograph's corners are those with which it was drawn, its panels can be drawn, and so can the scan and its plot."""
 import importlib.machinery
 import importlib.util
 import subprocess
@@ -35,3 +35,12 @@ def test_the_panels_are_drawn_from_what_the_tool_writes(tmp_path):
     drawn, kept = cv2.imread(str(picture)), cv2.imread(str(ROOT / "docs" / "find.png"))
     assert drawn.shape == kept.shape
     assert np.abs(drawn.astype(int) - kept).mean() < 3
+
+
+def test_the_scan_is_the_one_that_is_drawn_and_smooths_to_the_plot_of_the_guide(archive):
+    drawn = script("scan").table()
+    assert drawn == (ROOT / "examples" / "rim.csv").read_text()
+    assert archive.run("smooth", archive.add("rim.csv", drawn.encode()), "--window", 7) == 0
+    plot, kept = cv2.imread(str(archive.home / "rim-smoothed.png")), cv2.imread(str(ROOT / "docs" / "rim.png"))
+    assert plot.shape == kept.shape
+    assert np.abs(plot.astype(int) - kept).mean() < 1

@@ -28,6 +28,7 @@ from .photograph import (Border, Camera, EdgePoint, Fisheye, Intrinsics, Lens, l
 from .refinement import (Answer, Edge, Marked, refine_corners, refine_corners_mapped,
                          refine_corners_mapped_marking, refine_corners_marking)
 from .refusal import Marks, Refused
+from .scan import smooth_over, smooth_to
 
 __version__ = "0.1.0"
 
@@ -36,5 +37,5 @@ __all__ = [
     "Line", "Marked", "Marks", "Number", "Refused", "WORDS", "archive_sha256", "fit_line_tls_weighted", "intersect_lines", "inverse",
     "library_path", "load_library", "localize_edge_point", "localize_edge_point_mapped", "map_point", "quad_to_quad",
     "rectified_to_source", "refine_corners", "refine_corners_mapped", "refine_corners_mapped_marking",
-    "refine_corners_marking", "sample_bilinear", "scaled", "sqrt", "square_to_quad", "then", "word_of",
+    "refine_corners_marking", "sample_bilinear", "scaled", "smooth_over", "smooth_to", "sqrt", "square_to_quad", "then", "word_of",
 ]

@@ -11,6 +11,7 @@ from numpy.typing import ArrayLike, NDArray
 LARGEST_SIDE = 16384       # of a photograph; more is refused by 1
 _LARGEST_STRIDE = 65535    # more is refused by 2
 _LARGEST_U32 = 2 ** 32 - 1
+_LARGEST_HEIGHT = 2 ** 16 - 1
 _NEITHER = 2               # stands for a module that is not 0 or 1, which the library refuses by 3
 
 Photograph = tuple[NDArray[np.uint8], int, int, int]
@@ -87,3 +88,31 @@ def instance(what: str, value: object, *kinds: type) -> None:
     """Demands a value of one of these classes of the package."""
     if not isinstance(value, kinds):
         raise TypeError(f"{what} is of class {' or '.join(kind.__name__ for kind in kinds)}, not {type(value).__name__}")
+
+
+def heights(what: str, values: ArrayLike) -> NDArray[np.uint16]:
+    """Whole numbers from 0 to 65535 as a list of heights; not copied where they are one."""
+    array = _array(what, values)
+    if array.ndim != 1:
+        raise ValueError(f"{what}: the shape is {array.shape}, not n")
+    if array.dtype.kind not in "iu" and array.size:
+        raise TypeError(f"{what}: whole numbers are wanted, not {array.dtype}")
+    if array.size and not (0 <= array.min() and array.max() <= _LARGEST_HEIGHT):
+        raise ValueError(f"{what}: a height is a whole number from 0 to {_LARGEST_HEIGHT}")
+    return np.ascontiguousarray(array, np.uint16)
+
+
+def lent_heights(what: str, array: NDArray[np.uint16]) -> NDArray[np.uint16]:
+    """An array of heights that a call writes to, so that it must lie in one piece."""
+    instance(what, array, np.ndarray)
+    if array.dtype != np.uint16:
+        raise TypeError(f"{what} is of {array.dtype}, not of uint16")
+    if array.ndim != 1 or not array.flags.c_contiguous or not array.flags.writeable:
+        raise ValueError(f"{what} is not one list of heights that lies in one piece and can be written")
+    return array
+
+
+def window_argument(window: int) -> int:
+    """A window as the calls take it; one that an u32 does not hold is 0, refused by 21 too."""
+    whole = operator.index(window)
+    return whole if 0 <= whole <= _LARGEST_U32 else 0

@@ -42,6 +42,8 @@ SIGNATURES: dict[str, tuple[Any, list[Any]]] = {
     "intersect_lines": (_U32, [*_LIST, *_LIST, *_LIST]),
     "localize_edge_point": (_U32, [*_PHOTOGRAPH, *_PROFILE, *_LIST]),
     "localize_edge_point_mapped": (_U32, [*_PHOTOGRAPH, *_PROFILE, *_CAMERA, *_LIST]),
+    "smooth_to": (_U32, [*_LIST, _U32, *_LIST]),
+    "smooth_over": (_U32, [*_LIST, _U32]),
     "sqrt": (_F64, [_F64]),
 }
 
@@ -74,7 +76,7 @@ def archive_sha256() -> str | None:
 
 @lru_cache(maxsize=None)
 def load_library() -> ctypes.CDLL:
-    """The shared object, loaded once, with its 17 functions declared."""
+    """The shared object, loaded once, with its 19 functions declared."""
     path = library_path()
     try:
         if path != _FOR_THE_LOADER:

@@ -28,6 +28,8 @@ class Number(IntEnum):
     PARALLEL = 18
     PROFILE = 19
     PLACE = 20
+    WINDOW = 21
+    ROOM = 22
 
 
 WORDS: dict[int, str] = {
@@ -53,6 +55,8 @@ WORDS: dict[int, str] = {
     Number.PARALLEL: "the two lines are parallel",
     Number.PROFILE: "there is no edge along this profile",
     Number.PLACE: "the place has no counterpart in the photograph",
+    Number.WINDOW: "the window is not an odd number from 3 to 31",
+    Number.ROOM: "the smoothed scan does not fit where it is to be written",
 }
 
 

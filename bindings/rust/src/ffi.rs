@@ -106,6 +106,14 @@ unsafe extern "C" {
         point: *mut f64, point_len: usize,
     ) -> u32;
 
+    /// A scan, smoothed to a second buffer.
+    pub fn trufolmesca_smooth_to(
+        scan: *const u16, scan_len: usize, window: u32, out: *mut u16, out_len: usize,
+    ) -> u32;
+
+    /// A scan, smoothed over itself.
+    pub fn trufolmesca_smooth_over(scan: *mut u16, scan_len: usize, window: u32) -> u32;
+
     /// The square root, rounded once: it takes no list, so that nothing can be passed wrongly.
     pub safe fn trufolmesca_sqrt(x: f64) -> f64;
 }

@@ -8,6 +8,7 @@ mod numbers;
 mod photograph;
 pub mod raw;
 mod refinement;
+mod scan;
 #[cfg(doctest)]
 mod wrong_uses;
 
@@ -18,3 +19,4 @@ pub use photograph::{
     sample_bilinear,
 };
 pub use refinement::{Answer, Edge, Grid, Request, refine_corners, refine_corners_marking};
+pub use scan::{smooth_over, smooth_to};

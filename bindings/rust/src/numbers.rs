@@ -61,6 +61,8 @@ refusals! {
     18 PARALLEL "the two lines are parallel"
     19 PROFILE "there is no edge along this profile"
     20 PLACE "the place has no counterpart in the photograph"
+    21 WINDOW "the window is not an odd number from 3 to 31"
+    22 ROOM "the smoothed scan does not fit where it is to be written"
 }
 
 impl Refusal {

@@ -245,3 +245,19 @@ pub fn intersect_lines(a: &Line, b: &Line) -> Written<Place> {
     // SAFETY: lists and buffers by `call!`; lists and buffer are this function's own.
     written(|out| unsafe { call!(trufolmesca_intersect_lines; list a, list b, buffer out) })
 }
+
+/// A scan smoothed to a second buffer, whose heights behind the scan's stay; 0, 21 or 22, which
+/// write nothing.
+#[must_use]
+pub fn smooth_to(scan: &[u16], window: u32, out: &mut [u16]) -> u32 {
+    // SAFETY: lists and buffers by `call!`; the buffer is borrowed as `&mut`, so that it is no part
+    // of the scan.
+    unsafe { call!(trufolmesca_smooth_to; list scan, value window, buffer out) }
+}
+
+/// A scan smoothed over itself; 0, or 21, which writes nothing.
+#[must_use]
+pub fn smooth_over(scan: &mut [u16], window: u32) -> u32 {
+    // SAFETY: the buffer goes by `call!` and is the call's only list.
+    unsafe { call!(trufolmesca_smooth_over; buffer scan, value window) }
+}

@@ -188,6 +188,19 @@
 //! let _ = Map::scaled(2.0, 2.0).inverse();
 //! ```
 //!
+//! # A scan that is smoothed to itself as its second buffer
+//!
+//! ```compile_fail,E0502
+//! # use trufolmesca::smooth_to;
+//! let mut scan = [1, 2, 3];
+//! let smoothed = smooth_to(&scan, 3, &mut scan);
+//! ```
+//! ```
+//! # use trufolmesca::smooth_over;
+//! let mut scan = [1, 2, 3];
+//! let smoothed = smooth_over(&mut scan, 3);
+//! ```
+//!
 //! # A sheet that two threads write
 //!
 //! ```compile_fail,E0499

@@ -161,3 +161,37 @@ fn an_edge_point_is_found_through_a_camera_too() {
     let point = localize_edge_point(&photograph, Some(&camera), &rectified).unwrap();
     assert!((point.place[0] - 10.15).abs() < 0.05);
 }
+
+/// The mean, rounded down, of the heights up to half a window from i.
+fn mean_around(scan: &[u16], window: u32, i: usize) -> u16 {
+    let reach = window as usize / 2;
+    let around = &scan[i.saturating_sub(reach)..scan.len().min(i + reach + 1)];
+    (around.iter().map(|&height| u64::from(height)).sum::<u64>() / around.len() as u64) as u16
+}
+
+#[test]
+fn a_scan_is_smoothed_alike_to_a_buffer_and_over_itself() {
+    for window in (3..=31).step_by(2) {
+        for length in [0, 1, 2, 15, 16, 17, 31, 40, 1000] {
+            let mut scan: Vec<u16> =
+                (0..length).map(|i: u32| (i * i % 1000 * 7919 + i % 3 * 65000) as u16).collect();
+            let expected: Vec<u16> = (0..scan.len()).map(|i| mean_around(&scan, window, i)).collect();
+            let mut out = vec![7; scan.len() + 2];
+            assert_eq!(smooth_to(&scan, window, &mut out), Ok(()));
+            assert_eq!(out, [&expected[..], &[7, 7]].concat());
+            assert_eq!(smooth_over(&mut scan, window), Ok(()));
+            assert_eq!(scan, expected);
+        }
+    }
+}
+
+#[test]
+fn a_scan_that_is_refused_stays() {
+    let (mut scan, mut short) = ([9, 8, 7], [5, 5]);
+    for window in [0, 1, 2, 4, 32, 33, u32::MAX] {
+        assert_eq!(smooth_to(&scan, window, &mut short), Err(Refusal::WINDOW));
+        assert_eq!(smooth_over(&mut scan, window), Err(Refusal::WINDOW));
+    }
+    assert_eq!(smooth_to(&scan, 3, &mut short), Err(Refusal::ROOM));
+    assert_eq!((scan, short), ([9, 8, 7], [5, 5]));
+}

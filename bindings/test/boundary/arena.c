@@ -7,8 +7,8 @@
 #include <sys/mman.h>
 #include <unistd.h>
 
-static const size_t most[LISTS] = {MOST_BYTES, MOST_MODULES, MOST_FLOATS, MOST_FLOATS, MOST_FLOATS, MOST_FLOATS, MOST_COUNTS, MOST_BYTES,
-                                   MOST_BYTES};
+static const size_t most[LISTS] = {MOST_BYTES, MOST_MODULES, MOST_FLOATS, MOST_FLOATS, MOST_FLOATS, MOST_HEIGHTS,
+                                   MOST_FLOATS, MOST_COUNTS, MOST_BYTES, MOST_BYTES, MOST_HEIGHTS};
 
 /* Room for so many bytes and a rim, in whole pages, with a page that may not be touched at either end. */
 struct arena make_arena(size_t size) {
@@ -28,12 +28,13 @@ void make_desk(struct desk *desk, enum end end) {
     for (int list = 0; list < LISTS; ++list) desk->arenas[list] = make_arena(most[list] * element_sizes[list]);
 }
 
-/* Puts a list into its arena: its contents, or canaries into a buffer, and canaries into the rim beside it. */
+/* Puts a list into its arena: its contents, or canaries into a buffer that has none, and canaries
+   into the rim beside it. */
 static void lay_list(struct desk *desk, const struct job *job, enum list list) {
     const struct arena arena = desk->arenas[list];
     size_t size = job->len[list] * element_sizes[list];
     uint8_t *at = desk->end == FRONT ? arena.start : arena.start + arena.size - size;
-    if (is_buffer(list))
+    if (is_buffer(list) && !job->contents[list])
         memset(at, CANARY, size);
     else if (size)
         memcpy(at, job->contents[list], size);

@@ -11,21 +11,22 @@ enum {
     MOST_MODULES = 178 * 178,  /* one row and column more than a label can have */
     MOST_FLOATS = 64,
     MOST_COUNTS = 64,
+    MOST_HEIGHTS = 256,
     CANARY = 0xA7,             /* each byte of a buffer before a call */
     RIM = 64,                  /* bytes watched beside a list, on the side that has no guard */
-    NUMBERS = 21
+    NUMBERS = 23
 };
 
 /* ---- the calls */
 
 enum call {
     REFINE, REFINE_MAPPED, REFINE_MARKING, REFINE_MAPPED_MARKING, SAMPLE, TO_SOURCE, SQUARE_TO_QUAD, QUAD_TO_QUAD, MAP, SCALED,
-    INVERSE, THEN, FIT_LINE, INTERSECT, LOCALIZE, LOCALIZE_MAPPED, SQRT, CALLS
+    INVERSE, THEN, FIT_LINE, INTERSECT, LOCALIZE, LOCALIZE_MAPPED, SQRT, SMOOTH_TO, SMOOTH_OVER, CALLS
 };
 
 /* The lists and buffers that a call can be lent. FIRST is its corners, map, xs or line, SECOND the quad, map, ys or line beside it,
-   THIRD the weights or the camera. */
-enum list { BYTES, MODULES, FIRST, SECOND, THIRD, VALUES, COUNTS, SHEET, COPY, LISTS };
+   THIRD the weights or the camera. HEIGHTS is where a scan is smoothed to, and holds the scan before the call over itself. */
+enum list { BYTES, MODULES, FIRST, SECOND, THIRD, SCAN, VALUES, COUNTS, SHEET, COPY, HEIGHTS, LISTS };
 
 struct kind {
     const char *name;
@@ -43,15 +44,16 @@ extern const size_t element_sizes[LISTS];
 struct job {
     uint64_t seed, index;
     enum call call;
-    uint32_t width, height, stride, dim, border;
+    uint32_t width, height, stride, dim, border, window;
     uint8_t constant;
     double x[5];        /* the call's floats, in its order */
     bool flag[2];       /* its bools, in its order */
     uint32_t lens;      /* the kind of the camera's lens */
     size_t len[LISTS];
-    const void *contents[LISTS]; /* of the lists that are read: a scene's, or those below */
+    const void *contents[LISTS]; /* of what is read: a scene's, or those below; null of a buffer that is only written */
     uint8_t bytes[MOST_BYTES], modules[MOST_MODULES];
     double floats[3][MOST_FLOATS];
+    uint16_t scan[MOST_HEIGHTS];
 };
 
 static inline bool lends(const struct job *job, enum list list) { return kinds[job->call].lists >> list & 1; }

@@ -1,4 +1,4 @@
-/* The 17 calls of trufolmesca.h: what each is lent and can return, and how a job is put to it. */
+/* The 19 calls of trufolmesca.h: what each is lent and can return, and how a job is put to it. */
 #include "boundary.h"
 
 #include <string.h>
@@ -35,15 +35,18 @@ const struct kind kinds[CALLS] = {
     [LOCALIZE_MAPPED] = {"localize_edge_point_mapped", PHOTOGRAPH_LISTS | CAMERA_LIST | BIT(VALUES), VIEW_NUMBERS | BIT(6) | BIT(19), 3,
                          {0, 0, 13}},
     [SQRT] = {"sqrt", BIT(VALUES), BIT(0), 1, {0, 0, 0}},
+    [SMOOTH_TO] = {"smooth_to", BIT(SCAN) | BIT(HEIGHTS), BIT(0) | BIT(21) | BIT(22), 0, {0, 0, 0}},
+    [SMOOTH_OVER] = {"smooth_over", BIT(HEIGHTS), BIT(0) | BIT(21), 0, {0, 0, 0}},
 };
 
 /* A refinement can return 11, where a line's arithmetic overflows, but no input is known that gets there: the entry checks bound the
    corners, and no job of tools/judge did (docs/DIFFERENCES.md). So that one is not demanded. */
 unsigned demanded(enum call call) { return kinds[call].numbers & ~(kinds[call].lists & BIT(COUNTS) ? BIT(11) : 0); }
 
-const char *const list_names[LISTS] = {"bytes",  "modules", "the first list", "the second list", "the third list",
-                                       "values", "counts",  "the sheet",      "the copy"};
-const size_t element_sizes[LISTS] = {1, 1, sizeof(double), sizeof(double), sizeof(double), sizeof(double), sizeof(uint32_t), 1, 1};
+const char *const list_names[LISTS] = {"bytes",  "modules", "the first list", "the second list", "the third list", "the scan",
+                                       "values", "counts",  "the sheet",      "the copy",        "the heights"};
+const size_t element_sizes[LISTS] = {1, 1, sizeof(double), sizeof(double), sizeof(double), sizeof(uint16_t),
+                                     sizeof(double), sizeof(uint32_t), 1, 1, sizeof(uint16_t)};
 
 #define LENT(type, list) (type *)(void *)d->at[list], j->len[list]
 #define PHOTOGRAPH LENT(const uint8_t, BYTES), j->width, j->height, j->stride
@@ -81,6 +84,8 @@ uint32_t make_call(const struct job *j, const struct desk *d) {
     case INVERSE: trufolmesca_inverse(LENT(const double, FIRST), INTO); return 0;
     case THEN: trufolmesca_then(LENT(const double, FIRST), LENT(const double, SECOND), INTO); return 0;
     case SQRT: put_root(j, d); return 0;
+    case SMOOTH_TO: return trufolmesca_smooth_to(LENT(const uint16_t, SCAN), j->window, LENT(uint16_t, HEIGHTS));
+    case SMOOTH_OVER: return trufolmesca_smooth_over(LENT(uint16_t, HEIGHTS), j->window);
     default: return 0;
     }
 }

@@ -64,6 +64,27 @@ static bool root_is_right(const struct job *job, const struct desk *desk) {
     return memcmp(&root, &expected, sizeof root) == 0;
 }
 
+/* The height that a scan has at i once it is smoothed, worked out as the header says it. */
+static uint16_t mean_around(const struct job *job, size_t n, size_t i) {
+    size_t reach = job->window / 2, first = i < reach ? 0 : i - reach, end = least(i + reach + 1, n);
+    uint32_t sum = 0;
+    for (size_t k = first; k < end; ++k) sum += job->scan[k];
+    return (uint16_t)(sum / (end - first));
+}
+
+/* Whether a scan was refused as the header says, or smoothed, and all behind it stayed. */
+static bool scan_is_right(const struct job *job, const struct desk *desk, uint32_t number) {
+    size_t n = job->len[job->call == SMOOTH_TO ? SCAN : HEIGHTS], room = job->len[HEIGHTS];
+    bool good = job->window % 2 == 1 && job->window >= 3 && job->window <= 31;
+    if (number != (!good ? 21 : room < n ? 22 : 0)) return false;
+    const uint16_t *found = (const void *)desk->at[HEIGHTS];
+    size_t written = number == 0 ? n : 0;
+    for (size_t i = 0; i < written; ++i)
+        if (found[i] != mean_around(job, n, i)) return false;
+    if (job->call == SMOOTH_OVER) return number == 0 || memcmp(found, job->scan, n * sizeof *found) == 0;
+    return all_are((const uint8_t *)(found + written), (room - written) * sizeof *found, CANARY);
+}
+
 const char *wrong_after(const struct job *job, const struct desk *desk, uint32_t number) {
     const struct kind *kind = &kinds[job->call];
     if (number >= NUMBERS || !(kind->numbers >> number & 1)) return "the number is none of this call's";
@@ -72,6 +93,7 @@ const char *wrong_after(const struct job *job, const struct desk *desk, uint32_t
         if (!rim_is_kept(job, desk, (enum list)list)) return "a byte beside a list was written";
         if (!is_buffer((enum list)list) && !input_is_kept(job, desk, (enum list)list)) return "a list that is read was changed";
     }
+    if (lends(job, HEIGHTS)) return scan_is_right(job, desk, number) ? NULL : "the scan is not smoothed as the header says";
     if (!buffer_is_right(job, desk, VALUES, kind->values, number != 0)) return "the values are not written as the header says";
     if (job->call == SQRT && !root_is_right(job, desk)) return "the root is not the processor's";
     if (!lends(job, COUNTS)) return NULL;

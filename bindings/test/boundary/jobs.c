@@ -267,6 +267,20 @@ static void make_points(struct job *j, struct random *r) {
     for (uint32_t wild = below(r, 10); wild > 7 && n; --wild) spoil_float(j, (enum list)(FIRST + below(r, 3)), n, r);
 }
 
+/* ---- scans */
+
+/* A scan of any length, ragged or at the largest height, mostly with a good window and room. */
+static void make_scan(struct job *j, struct random *r) {
+    size_t n = chance(r, 70) ? below(r, 48) : below(r, MOST_HEIGHTS + 1);
+    uint32_t kind = below(r, 4);
+    for (size_t i = 0; i < MOST_HEIGHTS; ++i) j->scan[i] = kind == 0 ? 65535 : (uint16_t)(any_bits(r) >> (kind == 1 ? 60 : 48));
+    j->window = chance(r, 85) ? 3 + 2 * below(r, 15) : chance(r, 80) ? below(r, 40) : (uint32_t)any_bits(r);
+    enum list read = j->call == SMOOTH_TO ? SCAN : HEIGHTS;
+    j->len[HEIGHTS] = chance(r, 85) ? n + below(r, (uint32_t)(MOST_HEIGHTS - n) + 1) : any_length(r, n, MOST_HEIGHTS);
+    j->len[read] = n;
+    j->contents[read] = j->scan;
+}
+
 /* ---- all */
 
 /* The job of this index: the calls come in turn. */
@@ -284,6 +298,7 @@ void make_job(struct job *j, uint64_t seed, uint64_t index) {
     case FIT_LINE: make_points(j, &r); break;
     case INTERSECT: make_lines(j, &r); break;
     case SQRT: j->x[0] = any_float(&r); break;
+    case SMOOTH_TO: case SMOOTH_OVER: make_scan(j, &r); break;
     default: make_lists(j, &r); break;
     }
     j->len[VALUES] = j->call == SQRT ? 1 : any_length(&r, kinds[j->call].values, MOST_FLOATS);

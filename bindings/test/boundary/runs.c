@@ -10,9 +10,9 @@ _Thread_local const struct desk *current_desk;
 /* A job's call with its numbers, and how to make it again. */
 void print_job(const struct job *j) {
     printf("trufolmesca_%s: width %" PRIu32 ", height %" PRIu32 ", stride %" PRIu32 ", dim %" PRIu32 ", border %" PRIu32 ", constant %d,"
-           " floats %a %a %a %a %a, bools %d %d, lens %" PRIu32 "; lengths:",
-           kinds[j->call].name, j->width, j->height, j->stride, j->dim, j->border, j->constant, j->x[0], j->x[1], j->x[2], j->x[3],
-           j->x[4], j->flag[0], j->flag[1], j->lens);
+           " window %" PRIu32 ", floats %a %a %a %a %a, bools %d %d, lens %" PRIu32 "; lengths:",
+           kinds[j->call].name, j->width, j->height, j->stride, j->dim, j->border, j->constant, j->window, j->x[0], j->x[1], j->x[2],
+           j->x[3], j->x[4], j->flag[0], j->flag[1], j->lens);
     for (int list = 0; list < LISTS; ++list)
         if (lends(j, (enum list)list)) printf(" %s %zu", list_names[list], j->len[list]);
     printf("\nagain: boundary again %" PRIu64 " %" PRIu64 "\n", j->seed, j->index);

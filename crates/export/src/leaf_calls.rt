@@ -1,4 +1,4 @@
-// The leaf calls: each hands on what the one of its name in `c_maps`, `c_lines`, `c_samples` or `c_edge_points` gives.
+// The leaf calls: each hands on what the one of its name in `c_maps`, `c_lines`, `c_samples`, `c_edge_points` or `smooth` gives.
 // The parameters are those of the C interface.
 ghost use Rattle.std.specs.Prelude.{◌≡◌, None, set};
 ghost use Rattle.std.specs.Result.{result_unwrap_or};
@@ -18,6 +18,7 @@ ghost use Rattle.c_lists.specs.Lent.{quad_of, map_of, line_of};
 ghost use Rattle.c_views.specs.Views.{camera_of, view_of, border_of};
 ghost use Rattle.c_buffers.specs.Buffers.{with_place, with_point, with_line, with_map, zero_place, zero_point, zero_line, zero_map};
 ghost use Rattle.c_edge_points.specs.EdgePoints.{lent_scene, lent_ray};
+ghost use Rattle.smooth.specs.Smooth.{to_answer, smoothed_to, over_answer, smoothed_over};
 
 // ---- sampling.rs
 
@@ -220,6 +221,26 @@ pub extern "C" fn trufolmesca_localize_edge_point_mapped(
         lens,
         point,
     )
+}
+
+// ---- smoothing
+
+// A scan smoothed to a second buffer: `smooth::smooth_to` under its name for C.
+#[unsafe(no_mangle)]
+pub extern "C" fn trufolmesca_smooth_to(scan: &[u16], window: u32, out: &mut [u16]) -> u32
+    ensures value { result ≡ number_of (to_answer window scan.now out.old) }
+    ensures out_after { out.new ≡ smoothed_to window scan.now out.old }
+{
+    number::number_of(&smooth::smooth_to(scan, window, out))
+}
+
+// A scan smoothed over itself: `smooth::smooth_over` under its name for C.
+#[unsafe(no_mangle)]
+pub extern "C" fn trufolmesca_smooth_over(scan: &mut [u16], window: u32) -> u32
+    ensures value { result ≡ number_of (over_answer window) }
+    ensures scan_after { scan.new ≡ smoothed_over window scan.old }
+{
+    number::number_of(&smooth::smooth_over(scan, window))
 }
 
 // ---- the root

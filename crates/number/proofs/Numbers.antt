@@ -4,11 +4,11 @@ use native.Mathlib.Omega.{arith}
 use Rattle.std.specs.Prelude.{◌-◌, List, [], ◌∷◌, get_or}
 use Rattle.number.specs.Numbers.{number}
 use Rattle.number.specs.declared.Refusal.{Refusal}
-use Rattle.number.specs.declared.Refusal.TheVariants.{Size, Photograph, Grid, Scale, Corner, Lens, Sheet, Quad, Thin, Line, Overflow, Card, Points, Pairing, Finite, Weight, Outside, Parallel, Profile, Place}
+use Rattle.number.specs.declared.Refusal.TheVariants.{Size, Photograph, Grid, Scale, Corner, Lens, Sheet, Quad, Thin, Line, Overflow, Card, Points, Pairing, Finite, Weight, Outside, Parallel, Profile, Place, Window, Room}
 
 -- the refusals in the order of their numbers
 all : List Refusal
-all = Size ∷ Photograph ∷ Grid ∷ Scale ∷ Corner ∷ Lens ∷ Sheet ∷ Quad ∷ Thin ∷ Line ∷ Overflow ∷ Card ∷ Points ∷ Pairing ∷ Finite ∷ Weight ∷ Outside ∷ Parallel ∷ Profile ∷ Place ∷ []
+all = Size ∷ Photograph ∷ Grid ∷ Scale ∷ Corner ∷ Lens ∷ Sheet ∷ Quad ∷ Thin ∷ Line ∷ Overflow ∷ Card ∷ Points ∷ Pairing ∷ Finite ∷ Weight ∷ Outside ∷ Parallel ∷ Profile ∷ Place ∷ Window ∷ Room ∷ []
 
 -- the refusal of a number; where there is none, some refusal
 refusal_of : ℕ → Refusal
@@ -36,6 +36,8 @@ back Outside = refl
 back Parallel = refl
 back Profile = refl
 back Place = refl
+back Window = refl
+back Room = refl
 
 -- no refusal has the number of an answer
 pub number_positive : (r : Refusal) → 0 < number r
@@ -59,6 +61,8 @@ number_positive Outside = omega arith
 number_positive Parallel = omega arith
 number_positive Profile = omega arith
 number_positive Place = omega arith
+number_positive Window = omega arith
+number_positive Room = omega arith
 
 -- two refusals of one number are the same
 pub number_tells : (r s : Refusal) → number r ≡ number s → r ≡ s

@@ -1,7 +1,8 @@
--- The refusals of document 01, each with its number there. Definitions only, to be believed.
+-- The refusals of document 01, each with its number there, and from 21 on those of document 02.
+-- Definitions only, to be believed.
 use Rattle.std.specs.Prelude.{ℕ, Result, Ok, Err}
 use Rattle.number.specs.declared.Refusal.{Refusal}
-use Rattle.number.specs.declared.Refusal.TheVariants.{Size, Photograph, Grid, Scale, Corner, Lens, Sheet, Quad, Thin, Line, Overflow, Card, Points, Pairing, Finite, Weight, Outside, Parallel, Profile, Place}
+use Rattle.number.specs.declared.Refusal.TheVariants.{Size, Photograph, Grid, Scale, Corner, Lens, Sheet, Quad, Thin, Line, Overflow, Card, Points, Pairing, Finite, Weight, Outside, Parallel, Profile, Place, Window, Room}
 
 abbrev pub answer : ℕ
 answer = 0
@@ -47,6 +48,10 @@ number Parallel = 18
 number Profile = 19
 -- there is no source position
 number Place = 20
+-- a window is even, below 3 or above 31
+number Window = 21
+-- a smoothed scan does not fit where it is to be written
+number Room = 22
 
 -- what a call returns has a number: 0 where it is an answer, and else that of its refusal
 abbrev pub number_of : {A : Type 0} → Result A Refusal → ℕ

@@ -1,4 +1,5 @@
-// Why a call is refused: the refusals of document 01, each with its number there.
+// Why a call is refused: the refusals of document 01, each with its number there, and from 21 on
+// those of document 02.
 #![tactic(auto)]
 
 ghost use Rattle.std.specs.Prelude.{◌≡◌};
@@ -50,6 +51,10 @@ pub enum Refusal {
     Profile,
     // There is no source position.
     Place,
+    // A window is even, below 3 or above 31.
+    Window,
+    // A smoothed scan does not fit where it is to be written.
+    Room,
 }
 
 // The number of a refusal.
@@ -78,6 +83,8 @@ impl From<Refusal> for u32 {
             Refusal::Parallel => 18,
             Refusal::Profile => 19,
             Refusal::Place => 20,
+            Refusal::Window => 21,
+            Refusal::Room => 22,
         }
     }
 }

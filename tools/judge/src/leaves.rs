@@ -500,6 +500,34 @@ fn root(r: &mut Rng) -> Case {
     }
 }
 
+/// A smoothing call's number and the heights that it left; of a refusal what it changed, which is
+/// zeros.
+fn left(number: u32, before: &[u16], after: &[u16]) -> (u32, Vec<f64>) {
+    let kept = |i: usize| if number == 0 { 0.0 } else { f64::from(before[i]) };
+    (number, after.iter().enumerate().map(|(i, &height)| f64::from(height) - kept(i)).collect())
+}
+
+/// Both smoothing calls, held against document 02's words, since the original has none.
+fn smooth(r: &mut Rng) -> Case {
+    let n = if r.chance(0.1) { r.below(300) } else { r.below(45) } as usize;
+    let most = r.pick(&[2, 300, 65536]);
+    let scan: Vec<u16> = (0..n).map(|_| if r.chance(0.1) { u16::MAX } else { r.below(most) as u16 }).collect();
+    let wrong = r.pick(&[0, 1, 2, 4, 16, 30, 32, 33, 35, 65539, u32::MAX]);
+    let window = if r.chance(0.9) { 2 * r.below(15) as u32 + 3 } else { wrong };
+    let over = r.chance(0.5);
+    let room = if r.chance(0.1) { r.below(n as u64 + 1) } else { n as u64 + r.below(4) };
+    let before = if over { scan.clone() } else { (0..room as u16).map(|i| 40000 + i).collect() };
+    let (mut expected, mut found) = (before.clone(), before.clone());
+    let number = rules::smooth(&scan, window, &mut expected);
+    let port = if over { port::smooth_over(&mut found, window) } else { port::smooth_to(&scan, window, &mut found) };
+    Case {
+        name: if over { "smooth_over" } else { "smooth_to" },
+        input: format!("{scan:?}, window {window}, room {}", before.len()),
+        rust: left(number, &before, &expected),
+        port: port.map(|number| left(number, &before, &found)),
+    }
+}
+
 type Leaf = (u64, fn(&mut Rng) -> Case);
 
 /// How often, in so many in all.
@@ -518,6 +546,7 @@ const LEAVES: &[Leaf] = &[
     (8, cross),
     (10, localize),
     (6, root),
+    (8, smooth),
 ];
 
 /// Whether all agreed.

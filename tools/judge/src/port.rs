@@ -171,3 +171,11 @@ pub fn localize(p: Photograph, c: Option<&Camera>, a: &Aim) -> Leaf<3> {
 pub fn sqrt(x: f64) -> Leaf<1> {
     cfg!(port).then(|| (0, [trufolmesca::sqrt(x)]))
 }
+
+pub fn smooth_to(scan: &[u16], window: u32, out: &mut [u16]) -> Option<u32> {
+    cfg!(port).then(|| raw::smooth_to(scan, window, out))
+}
+
+pub fn smooth_over(scan: &mut [u16], window: u32) -> Option<u32> {
+    cfg!(port).then(|| raw::smooth_over(scan, window))
+}

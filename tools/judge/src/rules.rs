@@ -1,4 +1,5 @@
-//! Document 01's own rules, for what lies outside the comparison with the Rust: the entry checks.
+//! The documents' own rules, for what lies outside the comparison with the Rust: document 01's
+//! entry checks, and document 02's smoothing, of which there is no Rust.
 use crate::job::{Camera, Job};
 
 /// 1 and 2; 0 where neither refuses.
@@ -52,4 +53,21 @@ pub fn entry(job: &Job) -> u32 {
         return 5;
     }
     job.camera.as_ref().map_or(0, camera)
+}
+
+/// Smooths a scan to the front of `out`; 21 or 22, which leave it as it was, else 0.
+pub fn smooth(scan: &[u16], window: u32, out: &mut [u16]) -> u32 {
+    if window % 2 == 0 || !(3..=31).contains(&window) {
+        return 21;
+    }
+    if out.len() < scan.len() {
+        return 22;
+    }
+    let reach = (window - 1) as usize / 2;
+    for (i, height) in out.iter_mut().enumerate().take(scan.len()) {
+        let in_window = |k: &usize| k.abs_diff(i) <= reach;
+        let heights: Vec<u64> = (0..scan.len()).filter(in_window).map(|k| u64::from(scan[k])).collect();
+        *height = (heights.iter().sum::<u64>() / heights.len() as u64) as u16;
+    }
+    0
 }

@@ -1,0 +1,3 @@
+-- What the contracts of `smooth` cite.
+pub mod Smooth
+pub mod Walks
