@@ -37,7 +37,7 @@ def test_the_panels_are_drawn_from_what_the_tool_writes(tmp_path):
     assert np.abs(drawn.astype(int) - kept).mean() < 3
 
 
-def test_the_scan_is_the_one_that_is_drawn_and_smooths_to_the_plot_of_the_guide(archive):
+def test_the_scan_is_the_one_that_is_drawn_and_smooths_to_its_plot(archive):
     drawn = script("scan").table()
     assert drawn == (ROOT / "examples" / "rim.csv").read_text()
     assert archive.run("smooth", archive.add("rim.csv", drawn.encode()), "--window", 7) == 0
