@@ -3,7 +3,7 @@
    libtrufolmesca.so, which `make` builds; x86-64 Linux.
 
    The short way is a struct trufolmesca_request and the two calls over it, at the end;
-   trufolmesca_word says a number in words. These are C of this header. The 19 calls before them are
+   trufolmesca_word says a number in words. These are C of this header. The 22 calls before them are
    the library's, each proved to meet its contract.
 
    Calling it: a call needs less than 10 KB (10,240 bytes) of stack, takes no memory, keeps no state
@@ -22,9 +22,9 @@
    are left out, so that no length is undefined behaviour. Such a NaN is treated as any other: a
    refinement refuses it, 5 in the corners and 6 in a camera, and a call that takes any floats
    computes with it: trufolmesca_square_to_quad of an empty list returns 0, and a map with NaNs.
-   The two calls that smooth a scan differ: a refusal writes nothing, and a buffer that is too short
-   is refused. Lists and buffers must not overlap a buffer of the same call, and a pointer is not
-   null, also where its length is 0.
+   The calls that smooth a scan and those over cards differ: a refusal writes nothing, and a buffer
+   that is too short is refused. Lists and buffers must not overlap a buffer of the same call, and a
+   pointer is not null, also where its length is 0.
 
    Lists:
      corners  x0, y0 to x3, y3: top left, top right, bottom right, bottom left
@@ -36,6 +36,7 @@
      map      a11, a21, a31, a12, a22, a32, a13, a23, a33
      line     the centroid's x and y, then the direction's
      scan     heights in whole units, 0 to 65535, in the order in which they were scanned
+     card     a request or an answer in bytes, field by field; docs/CARDS.md has the fields
    Buffers:
      places   as corners, in source pixels, which are the photograph's; of a call through a camera
               they are in rectified pixels, those of the picture that the camera rectifies to, and
@@ -87,7 +88,7 @@ enum {
     TRUFOLMESCA_LINE = 10,
     /* The centroid, the direction or a residual of a line is not finite. */
     TRUFOLMESCA_OVERFLOW = 11,
-    /* A job card is malformed; no call of this header returns it. */
+    /* A job card is malformed, or the buffer for a result card is too short. */
     TRUFOLMESCA_CARD = 12,
     /* A line was asked for through fewer than two points. */
     TRUFOLMESCA_POINTS = 13,
@@ -108,8 +109,15 @@ enum {
     /* A window is even, below 3 or above 31. */
     TRUFOLMESCA_WINDOW = 21,
     /* A smoothed scan does not fit where it is to be written. */
-    TRUFOLMESCA_ROOM = 22
+    TRUFOLMESCA_ROOM = 22,
+    /* A result card is malformed, or of the other form. */
+    TRUFOLMESCA_FORM = 23,
+    /* A count of a result card is above 255. */
+    TRUFOLMESCA_COUNT = 24
 };
+
+/* The bytes of a result card, and of one in the older form, whose counts have a byte each. */
+enum { TRUFOLMESCA_RESULT_CARD_SIZE = 105, TRUFOLMESCA_OLDER_RESULT_CARD_SIZE = 93 };
 
 /* The kind of a camera's lens: none; by Brown and Conrady, with k1, k2, p1, p2, k3; fisheye, with
    k1, k2, k3, k4, of which four zeros still are a lens, the equidistant one. Before the fisheye came
@@ -226,6 +234,20 @@ TRUFOLMESCA_CALL uint32_t trufolmesca_smooth_to(
     const uint16_t *scan, size_t scan_len, uint32_t window, uint16_t *out, size_t out_len);
 TRUFOLMESCA_CALL uint32_t trufolmesca_smooth_over(uint16_t *scan, size_t scan_len, uint32_t window);
 
+/* A job card run: the refinement that it asks for, without marking, and its answer as a result card
+   at the front of a buffer of at least 105 bytes: 12 where the buffer is shorter or the job card is
+   malformed, then as the refinement. */
+TRUFOLMESCA_CALL uint32_t trufolmesca_run_card(
+    const uint8_t *card, size_t card_len, uint8_t *out, size_t out_len);
+
+/* A result card in the older form, of 93 bytes, made one of today's, of 105: 23, 12. And back: 23,
+   then 24 where a count is above 255, then 12 where the buffer is too short. To and fro gives the
+   first card's bytes again. */
+TRUFOLMESCA_CALL uint32_t trufolmesca_widen_result_card(
+    const uint8_t *card, size_t card_len, uint8_t *out, size_t out_len);
+TRUFOLMESCA_CALL uint32_t trufolmesca_narrow_result_card(
+    const uint8_t *card, size_t card_len, uint8_t *out, size_t out_len);
+
 /* The square root, rounded once. */
 double trufolmesca_sqrt(double x);
 
@@ -248,7 +270,7 @@ static inline const char *trufolmesca_word(uint32_t number) {
                "a quarter of a module off or in another order, or dark and light exchanged";
     case TRUFOLMESCA_LINE: return "the points found on an edge all lie in one place";
     case TRUFOLMESCA_OVERFLOW: return "the arithmetic left the range of numbers";
-    case TRUFOLMESCA_CARD: return "the job card is malformed";
+    case TRUFOLMESCA_CARD: return "the job card is malformed, or there is no room for the result card";
     case TRUFOLMESCA_POINTS: return "a line needs two points";
     case TRUFOLMESCA_PAIRING: return "the points and their weights differ in number";
     case TRUFOLMESCA_FINITE: return "a point or a weight is not a number";
@@ -259,6 +281,8 @@ static inline const char *trufolmesca_word(uint32_t number) {
     case TRUFOLMESCA_PLACE: return "the place has no counterpart in the photograph";
     case TRUFOLMESCA_WINDOW: return "the window is not an odd number from 3 to 31";
     case TRUFOLMESCA_ROOM: return "the smoothed scan does not fit where it is to be written";
+    case TRUFOLMESCA_FORM: return "the result card is malformed, or of the other form";
+    case TRUFOLMESCA_COUNT: return "a count is above 255, and the older form has no room for it";
     default: return "a number that this version does not know";
     }
 }

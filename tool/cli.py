@@ -1,4 +1,4 @@
-"""The command line: measure, verify, report, smooth."""
+"""The command line: measure, verify, report, smooth, card."""
 from __future__ import annotations
 
 import argparse
@@ -27,6 +27,7 @@ and anyone can run the measurement again on it.
   ./trufolmesca verify DIR                   run again over the published copies, and compare
   ./trufolmesca report DIR                   one page with all results, DIR/index.html
   ./trufolmesca smooth FILE.csv --window N   smooth the scan of a sherd's profile, with a plot
+  ./trufolmesca card FILE                    say what a result card holds, in either form
 
 docs/GUIDE.md explains the terms, and every number in words.
 """
@@ -67,6 +68,14 @@ Heights are whole numbers from 0 to 65535. A heading is optional, and lines that
 remarks. It writes FILE-smoothed.csv, which is the file with a column `smoothed_N` behind all others
 and else unchanged, and FILE-smoothed.png, a plot of the heights before and after.
 """
+
+CARD = """\
+Says what a result card holds: its corners to the last bit, its flags, and the counts of its edges.
+Either form is read: today's, of 105 bytes, and the older one, of 93, whose counts have a byte each.
+With --newer or --older it is written in that form too; both ways lose nothing.
+"""
+
+CARD_STATUS = "Exit status: 0 said, 1 the card was refused, in words, 2 the command itself was wrong."
 
 SMOOTH_STATUS = "Exit status: 0 smoothed, 1 the file was refused, in words, 2 the command itself was wrong."
 
@@ -141,7 +150,7 @@ def parser() -> argparse.ArgumentParser:
     raw = argparse.RawDescriptionHelpFormatter
     words = _Parser(prog="trufolmesca", description=DESCRIPTION, formatter_class=raw)
     words.add_argument("--version", action="version", version=f"%(prog)s {trufolmesca.__version__}")
-    commands = words.add_subparsers(dest="command", required=True, metavar="measure | verify | report | smooth")
+    commands = words.add_subparsers(dest="command", required=True, metavar="measure | verify | report | smooth | card")
     _measure_words(commands.add_parser("measure", help="measure the labels of photographs", description=MEASURE,
                                        epilog=MEASURE_STATUS, formatter_class=raw))
     verify = commands.add_parser("verify", help="run again over the published copies", description=VERIFY,
@@ -153,6 +162,10 @@ def parser() -> argparse.ArgumentParser:
     report.add_argument("directory", type=Path, metavar="DIR", help="where measure wrote")
     _smooth_words(commands.add_parser("smooth", help="smooth the scan of a sherd's profile", description=SMOOTH,
                                       epilog=SMOOTH_STATUS, formatter_class=raw))
+    card = commands.add_parser("card", help="say what a result card holds", description=CARD, epilog=CARD_STATUS, formatter_class=raw)
+    card.add_argument("file", type=Path, metavar="FILE", help="the result card")
+    card.add_argument("--newer", type=Path, metavar="OUT", help="write it in today's form")
+    card.add_argument("--older", type=Path, metavar="OUT", help="write it in the older form, where every count is at most 255")
     return words
 
 
@@ -193,7 +206,7 @@ def main(arguments: list[str] | None = None) -> int:
     try:
         if asked.command != "report":
             load_library()  # said at once where it is missing, and not for each photograph
-        return {"measure": _measure, "verify": _verify, "report": _report, "smooth": _smooth}[asked.command](asked)
+        return {"measure": _measure, "verify": _verify, "report": _report, "smooth": _smooth, "card": _card}[asked.command](asked)
     except (Unanswered, LibraryMissing) as why:
         print(f"trufolmesca: {why}", file=sys.stderr)
         return BAD_USAGE
@@ -243,6 +256,17 @@ def _smooth(asked: argparse.Namespace) -> int:
         raise Unanswered(f"--window {asked.window}: {refusal}") from None
     try:
         print(smooth_file(asked.file, asked.window, asked.column, asked.out))
+    except Unanswered as why:
+        print(f"trufolmesca: {printable(str(asked.file))}: {printable(str(why))}", file=sys.stderr)
+        return SOME_REFUSED
+    return ANSWERED
+
+
+def _card(asked: argparse.Namespace) -> int:
+    """The command card."""
+    from tool.card import print_card
+    try:
+        print(print_card(asked.file, asked.newer, asked.older))
     except Unanswered as why:
         print(f"trufolmesca: {printable(str(asked.file))}: {printable(str(why))}", file=sys.stderr)
         return SOME_REFUSED

@@ -11,7 +11,8 @@ HERE = Path(__file__).resolve().parent / "boundary"
 FLAGS = ["-O2", "-std=c11", "-D_GNU_SOURCE", "-pthread", "-Wall", "-Wextra", "-Wpedantic", "-Wconversion", "-Werror"]
 STACK = 10 * 1024  # bytes that the header promises to suffice
 LISTS = {"BYTES": "bytes", "MODULES": "modules", "FIRST": "the first list", "SECOND": "the second list", "THIRD": "the third list",
-         "SCAN": "the scan", "VALUES": "values", "COUNTS": "counts", "SHEET": "the sheet", "COPY": "the copy", "HEIGHTS": "the heights"}
+         "SCAN": "the scan", "CARD": "the card", "VALUES": "values", "COUNTS": "counts", "SHEET": "the sheet", "COPY": "the copy", "HEIGHTS": "the heights",
+         "RESULT": "the result card"}
 JOBS = 300_000  # each is two calls: lists at the front and at the back of their pages
 
 
@@ -69,7 +70,7 @@ def test_calls_touch_what_they_are_lent_alone(boundary):
     assert done.returncode == 0, done.stdout
     assert done.stdout.endswith(f"\n{2 * JOBS} calls, 0 numbers not reached\n")
     tally = tally_of(done.stdout)
-    assert len(tally) == 19 and sum(sum(counts.values()) for counts in tally.values()) == 2 * JOBS >= 500_000
+    assert len(tally) == 22 and sum(sum(counts.values()) for counts in tally.values()) == 2 * JOBS >= 500_000
     for name, counts in tally.items():
         behind_the_checks = sum(times for number, times in counts.items() if number == 0 or number >= 8)
         assert behind_the_checks > sum(counts.values()) / 2, f"{name} is mostly refused at its entry"
@@ -85,7 +86,7 @@ def test_ten_kilobytes_of_stack_suffice(boundary):
     done = ran(boundary, "stack", 3, 30_000)
     assert done.returncode == 0, done.stdout
     used = stack_of(done.stdout)
-    assert len(used) == 19 and max(used.values()) <= STACK
+    assert len(used) == 22 and max(used.values()) <= STACK
 
 
 def test_ten_kilobytes_suffice_for_the_shared_object(home, objects, library):
@@ -93,7 +94,7 @@ def test_ten_kilobytes_suffice_for_the_shared_object(home, objects, library):
     program = link(home / "boundary_shared", *objects, library, f"-Wl,-rpath,{library.parent}")
     done = ran(program, "stack", 1, 6000)
     assert done.returncode == 0, done.stdout
-    assert len(stack_of(done.stdout)) == 19
+    assert len(stack_of(done.stdout)) == 22
 
 
 @pytest.fixture(scope="module")

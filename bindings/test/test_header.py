@@ -81,7 +81,7 @@ def test_a_number_that_is_left_unread_is_warned_of(compiler, language, standard,
     short = ["trufolmesca_refine(&r, &a);", "trufolmesca_refine_marking(&r, &a, bytes, 0, bytes, 0);"]
     source = program([*calls, *short]).replace("(void)in_bytes", f"{request} (void)in_bytes")
     warned = warned_lines(source, tmp_path, root, compiler, language, standard, "unused-result")
-    assert len(calls) == 14 and warned == set(range(5, 5 + len(calls) + 2))
+    assert len(calls) == 17 and warned == set(range(5, 5 + len(calls) + 2))
 
 
 @each_compiler
@@ -93,7 +93,7 @@ def test_a_null_pointer_is_warned_of(compiler, language, standard, tmp_path, roo
             passed = ", ".join([*given[:at], "NULL", *given[at + 1:]])
             calls.append(f"{'' if result == 'void' else 'counts[0] = '}trufolmesca_{name}({passed});")
     warned = warned_lines(program(calls), tmp_path, root, compiler, language, standard, "nonnull")
-    assert len(calls) == 58 and warned == set(range(5, 5 + len(calls)))
+    assert len(calls) == 64 and warned == set(range(5, 5 + len(calls)))
 
 
 def printed(body: str, tmp_path, root, archive) -> list[str]:
@@ -111,15 +111,15 @@ def test_the_version_is_that_of_the_repository(version, tmp_path, root, archive)
 
 
 def test_the_words_are_those_of_the_tool(tmp_path, root, archive):
-    lines = printed("for (uint32_t n = 0; n < 25; ++n) puts(trufolmesca_word(n));", tmp_path, root, archive)
-    assert dict(enumerate(lines[:23])) == WORDS
-    assert set(lines[23:]) == {"a number that this version does not know"}
+    lines = printed("for (uint32_t n = 0; n < 27; ++n) puts(trufolmesca_word(n));", tmp_path, root, archive)
+    assert dict(enumerate(lines[:25])) == WORDS
+    assert set(lines[25:]) == {"a number that this version does not know"}
 
 
 def test_every_number_has_a_comment_of_its_own(root):
     header = (root / "bindings/trufolmesca.h").read_text()
     commented = re.findall(r"^    /\* \S.*\. \*/\n    TRUFOLMESCA_\w+ = (\d+),?$", header, re.M)
-    assert [int(number) for number in commented] == list(range(23))
+    assert [int(number) for number in commented] == list(range(25))
 
 
 def test_calls_over_a_request_give_what_the_long_calls_give(tmp_path, root, archive):

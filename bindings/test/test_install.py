@@ -86,7 +86,7 @@ def test_the_version_that_cmake_asks_for(prefix, tmp_path, asked, suits):
 def test_the_shared_object_shows_the_calls_alone(prefix, archive):
     calls = {line.split()[-1] for line in said("nm", "--defined-only", "--extern-only", archive).splitlines() if " T " in line}
     shown = {line.split()[-1] for line in said("nm", "-D", "--defined-only", prefix / "lib/libtrufolmesca.so").splitlines()}
-    assert shown == calls and len(calls) == 19
+    assert shown == calls and len(calls) == 22
     assert (prefix / "lib/libtrufolmesca.a").read_bytes() == archive.read_bytes()
     assert "RWE" not in said("readelf", "-lW", prefix / "lib/libtrufolmesca.so")  # no stack that can be executed
 

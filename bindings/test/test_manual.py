@@ -34,7 +34,7 @@ def test_the_page_has_every_call_of_the_header():
         assert re.findall(r'"([^"]*)"', shown) == parameters, name
 
 
-@pytest.mark.parametrize("command, one", [("measure", "--side-mm"), ("smooth", "--window")])
+@pytest.mark.parametrize("command, one", [("measure", "--side-mm"), ("smooth", "--window"), ("card", "--older")])
 def test_the_tools_page_has_every_option(command, one):
     shown = run("/usr/bin/python3", ROOT / "trufolmesca", command, "--help").stdout
     options = set(re.findall(r"--[a-z-]+", shown))

@@ -182,6 +182,37 @@ def test_a_scan_that_is_refused_stays():
     assert scan.tolist() == [9, 8, 7] and short.tolist() == [5, 5]
 
 
+# ---- cards
+
+
+def result_card(tag: int, wide: int, largest: int = 255) -> bytes:
+    """A result card of so many bytes a count, of counts up to this one."""
+    counts = b"".join(b"".join((largest - k).to_bytes(wide, "little") for k in range(3)) + bytes([e % 2]) for e in range(4))
+    fields = ((16, bytes(range(64))), (tag, counts), (18, bytes([1, 0, 1, 1])))
+    return b"".join(bytes([tag]) + len(contents).to_bytes(2, "little") + contents for tag, contents in fields)
+
+
+def test_a_result_card_goes_to_the_other_form_and_back():
+    older, newer = result_card(17, 1), result_card(19, 2)
+    assert (len(older), len(newer)) == (trufolmesca.OLDER_RESULT_CARD_SIZE, trufolmesca.RESULT_CARD_SIZE)
+    assert trufolmesca.widen_result_card(older) == newer and trufolmesca.narrow_result_card(newer) == older
+    assert trufolmesca.widen_result_card(memoryview(bytearray(older))) == newer
+    for call, card in ((trufolmesca.widen_result_card, newer), (trufolmesca.narrow_result_card, older),
+                       (trufolmesca.widen_result_card, b""), (trufolmesca.narrow_result_card, newer + b"\0")):
+        assert refusal_of(call, card).number == Number.FORM
+    assert refusal_of(trufolmesca.narrow_result_card, result_card(19, 2, 256)).number == Number.COUNT
+
+
+def test_a_job_card_is_run(root):
+    job = (root / "examples" / "label.card").read_bytes()
+    card = trufolmesca.run_card(job)
+    corners = np.frombuffer(card, "<f8", 8, 3).reshape(4, 2)
+    printed_bits = [line.split()[2:4] for line in (root / "crates/label/stdout").read_text().splitlines() if line.startswith("corner")]
+    assert [[f"{bits:016x}" for bits in place] for place in corners.view("<u8").tolist()] == printed_bits
+    assert card == trufolmesca.widen_result_card(trufolmesca.narrow_result_card(card))
+    assert refusal_of(trufolmesca.run_card, job[:-1]).number == Number.CARD
+
+
 # ---- refusals
 
 

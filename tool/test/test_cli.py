@@ -20,7 +20,7 @@ def run_alone(*words: object, **how) -> subprocess.CompletedProcess:
 
 
 @pytest.mark.parametrize("words", [("--help",), ("measure", "--help"), ("verify", "--help"), ("report", "--help"),
-                                   ("smooth", "--help")])
+                                   ("smooth", "--help"), ("card", "--help")])
 def test_help_fits_a_terminal(archive, words, monkeypatch):
     monkeypatch.setenv("COLUMNS", "100")
     assert archive.run(*words) == 0

@@ -19,6 +19,7 @@ sheet and copy are new arrays. The processor's rounding mode, flush-to-zero and 
 are as a program starts with them: to nearest, off and off.
 """
 from .arguments import LARGEST_SIDE
+from .card import OLDER_RESULT_CARD_SIZE, RESULT_CARD_SIZE, narrow_result_card, run_card, widen_result_card
 from .geometry import (Line, fit_line_tls_weighted, intersect_lines, inverse, map_point,
                        quad_to_quad, scaled, sqrt, square_to_quad, then)
 from .library import LibraryMissing, archive_sha256, library_path, load_library
@@ -33,9 +34,10 @@ from .scan import smooth_over, smooth_to
 __version__ = "0.1.0"
 
 __all__ = [
-    "Answer", "Border", "Camera", "Edge", "EdgePoint", "Fisheye", "Intrinsics", "LARGEST_SIDE", "Lens", "LibraryMissing",
-    "Line", "Marked", "Marks", "Number", "Refused", "WORDS", "archive_sha256", "fit_line_tls_weighted", "intersect_lines", "inverse",
-    "library_path", "load_library", "localize_edge_point", "localize_edge_point_mapped", "map_point", "quad_to_quad",
-    "rectified_to_source", "refine_corners", "refine_corners_mapped", "refine_corners_mapped_marking",
-    "refine_corners_marking", "sample_bilinear", "scaled", "smooth_over", "smooth_to", "sqrt", "square_to_quad", "then", "word_of",
+    "Answer", "Border", "Camera", "Edge", "EdgePoint", "Fisheye", "Intrinsics", "LARGEST_SIDE", "Lens", "LibraryMissing", "Line",
+    "Marked", "Marks", "Number", "OLDER_RESULT_CARD_SIZE", "RESULT_CARD_SIZE", "Refused", "WORDS", "archive_sha256",
+    "fit_line_tls_weighted", "intersect_lines", "inverse", "library_path", "load_library", "localize_edge_point",
+    "localize_edge_point_mapped", "map_point", "narrow_result_card", "quad_to_quad", "rectified_to_source", "refine_corners",
+    "refine_corners_mapped", "refine_corners_mapped_marking", "refine_corners_marking", "run_card", "sample_bilinear", "scaled",
+    "smooth_over", "smooth_to", "sqrt", "square_to_quad", "then", "widen_result_card", "word_of",
 ]

@@ -44,6 +44,9 @@ SIGNATURES: dict[str, tuple[Any, list[Any]]] = {
     "localize_edge_point_mapped": (_U32, [*_PHOTOGRAPH, *_PROFILE, *_CAMERA, *_LIST]),
     "smooth_to": (_U32, [*_LIST, _U32, *_LIST]),
     "smooth_over": (_U32, [*_LIST, _U32]),
+    "run_card": (_U32, [*_LIST, *_LIST]),
+    "widen_result_card": (_U32, [*_LIST, *_LIST]),
+    "narrow_result_card": (_U32, [*_LIST, *_LIST]),
     "sqrt": (_F64, [_F64]),
 }
 
@@ -76,7 +79,7 @@ def archive_sha256() -> str | None:
 
 @lru_cache(maxsize=None)
 def load_library() -> ctypes.CDLL:
-    """The shared object, loaded once, with its 19 functions declared."""
+    """The shared object, loaded once, with its 22 functions declared."""
     path = library_path()
     try:
         if path != _FOR_THE_LOADER:

@@ -30,6 +30,8 @@ class Number(IntEnum):
     PLACE = 20
     WINDOW = 21
     ROOM = 22
+    FORM = 23
+    COUNT = 24
 
 
 WORDS: dict[int, str] = {
@@ -46,7 +48,7 @@ WORDS: dict[int, str] = {
                  "a quarter of a module off or in another order, or dark and light exchanged",
     Number.LINE: "the points found on an edge all lie in one place",
     Number.OVERFLOW: "the arithmetic left the range of numbers",
-    Number.CARD: "the job card is malformed",
+    Number.CARD: "the job card is malformed, or there is no room for the result card",
     Number.POINTS: "a line needs two points",
     Number.PAIRING: "the points and their weights differ in number",
     Number.FINITE: "a point or a weight is not a number",
@@ -57,6 +59,8 @@ WORDS: dict[int, str] = {
     Number.PLACE: "the place has no counterpart in the photograph",
     Number.WINDOW: "the window is not an odd number from 3 to 31",
     Number.ROOM: "the smoothed scan does not fit where it is to be written",
+    Number.FORM: "the result card is malformed, or of the other form",
+    Number.COUNT: "a count is above 255, and the older form has no room for it",
 }
 
 

@@ -114,6 +114,15 @@ unsafe extern "C" {
     /// A scan, smoothed over itself.
     pub fn trufolmesca_smooth_over(scan: *mut u16, scan_len: usize, window: u32) -> u32;
 
+    /// A job card run, its result card written to a buffer.
+    pub fn trufolmesca_run_card(card: *const u8, card_len: usize, out: *mut u8, out_len: usize) -> u32;
+
+    /// A result card in the older form made one of today's.
+    pub fn trufolmesca_widen_result_card(card: *const u8, card_len: usize, out: *mut u8, out_len: usize) -> u32;
+
+    /// A result card made one in the older form.
+    pub fn trufolmesca_narrow_result_card(card: *const u8, card_len: usize, out: *mut u8, out_len: usize) -> u32;
+
     /// The square root, rounded once: it takes no list, so that nothing can be passed wrongly.
     pub safe fn trufolmesca_sqrt(x: f64) -> f64;
 }

@@ -1,6 +1,7 @@
 #![doc = include_str!("../README.md")]
 #![deny(missing_docs, unsafe_code, unsafe_op_in_unsafe_fn, clippy::undocumented_unsafe_blocks)]
 
+mod card;
 #[allow(unsafe_code)]
 pub mod ffi;
 mod geometry;
@@ -12,6 +13,7 @@ mod scan;
 #[cfg(doctest)]
 mod wrong_uses;
 
+pub use card::{OLDER_RESULT_CARD_SIZE, RESULT_CARD_SIZE, narrow_result_card, run_card, widen_result_card};
 pub use geometry::{Line, Map, Place, Quad, fit_line_tls_weighted, intersect_lines, sqrt};
 pub use numbers::Refusal;
 pub use photograph::{

@@ -52,7 +52,7 @@ refusals! {
         a quarter of a module off or in another order, or dark and light exchanged"
     10 LINE "the points found on an edge all lie in one place"
     11 OVERFLOW "the arithmetic left the range of numbers"
-    12 CARD "the job card is malformed"
+    12 CARD "the job card is malformed, or there is no room for the result card"
     13 POINTS "a line needs two points"
     14 PAIRING "the points and their weights differ in number"
     15 FINITE "a point or a weight is not a number"
@@ -63,6 +63,8 @@ refusals! {
     20 PLACE "the place has no counterpart in the photograph"
     21 WINDOW "the window is not an odd number from 3 to 31"
     22 ROOM "the smoothed scan does not fit where it is to be written"
+    23 FORM "the result card is malformed, or of the other form"
+    24 COUNT "a count is above 255, and the older form has no room for it"
 }
 
 impl Refusal {

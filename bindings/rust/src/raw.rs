@@ -261,3 +261,28 @@ pub fn smooth_over(scan: &mut [u16], window: u32) -> u32 {
     // SAFETY: the buffer goes by `call!` and is the call's only list.
     unsafe { call!(trufolmesca_smooth_over; buffer scan, value window) }
 }
+
+/// A job card run, its result card written to the front of a buffer; its number, whose refusals
+/// write nothing.
+#[must_use]
+pub fn run_card(card: &[u8], out: &mut [u8]) -> u32 {
+    // SAFETY: lists and buffers by `call!`; the buffer is borrowed as `&mut`, so that it is no part
+    // of the card.
+    unsafe { call!(trufolmesca_run_card; list card, buffer out) }
+}
+
+/// A result card in the older form made one of today's; 0, 23 or 12, which write nothing.
+#[must_use]
+pub fn widen_result_card(card: &[u8], out: &mut [u8]) -> u32 {
+    // SAFETY: lists and buffers by `call!`; the buffer is borrowed as `&mut`, so that it is no part
+    // of the card.
+    unsafe { call!(trufolmesca_widen_result_card; list card, buffer out) }
+}
+
+/// A result card made one in the older form; 0, 23, 24 or 12, which write nothing.
+#[must_use]
+pub fn narrow_result_card(card: &[u8], out: &mut [u8]) -> u32 {
+    // SAFETY: lists and buffers by `call!`; the buffer is borrowed as `&mut`, so that it is no part
+    // of the card.
+    unsafe { call!(trufolmesca_narrow_result_card; list card, buffer out) }
+}

@@ -195,3 +195,47 @@ fn a_scan_that_is_refused_stays() {
     assert_eq!(smooth_to(&scan, 3, &mut short), Err(Refusal::ROOM));
     assert_eq!((scan, short), ([9, 8, 7], [5, 5]));
 }
+
+/// A result card of so many bytes a count, of counts from 0 on and every flag set.
+fn result_card(wide: usize) -> Vec<u8> {
+    let edge = |e: usize| {
+        let counts = [e, e + 1, e + 2].map(|n| (n as u16).to_le_bytes()[..wide].to_vec()).concat();
+        [counts, vec![1]].concat()
+    };
+    let corners: Vec<u8> = (0..64).map(|i| (i * 37 % 256) as u8).collect();
+    let stats = [0, 1, 2, 3].map(edge).concat();
+    let head = |tag: u8, n: usize| vec![tag, n as u8, 0];
+    [
+        head(16, 64),
+        corners,
+        head(if wide == 1 { 17 } else { 19 }, stats.len()),
+        stats,
+        head(18, 4),
+        vec![1; 4],
+    ]
+    .concat()
+}
+
+#[test]
+fn a_result_card_goes_to_the_other_form_and_back() {
+    let (older, newer) = (result_card(1), result_card(2));
+    assert_eq!((older.len(), newer.len()), (OLDER_RESULT_CARD_SIZE, RESULT_CARD_SIZE));
+    assert_eq!(widen_result_card(&older).map(|card| card.to_vec()), Ok(newer.clone()));
+    assert_eq!(narrow_result_card(&newer).map(|card| card.to_vec()), Ok(older.clone()));
+    assert_eq!(widen_result_card(&newer), Err(Refusal::FORM));
+    assert_eq!(narrow_result_card(&older), Err(Refusal::FORM));
+    let mut large = newer;
+    large[71] = 1;
+    assert_eq!(narrow_result_card(&large), Err(Refusal::COUNT));
+    large[76] = 2;
+    assert_eq!(narrow_result_card(&large), Err(Refusal::FORM));
+}
+
+#[test]
+fn a_result_card_that_is_refused_stays() {
+    let mut short = [7; RESULT_CARD_SIZE - 1];
+    assert_eq!(raw::widen_result_card(&result_card(1), &mut short), Refusal::CARD.number());
+    assert_eq!(raw::run_card(&[], &mut short), Refusal::CARD.number());
+    assert_eq!(raw::narrow_result_card(&result_card(2), &mut short[..92]), Refusal::CARD.number());
+    assert_eq!(short, [7; RESULT_CARD_SIZE - 1]);
+}

@@ -8,7 +8,7 @@
 #include <unistd.h>
 
 static const size_t most[LISTS] = {MOST_BYTES, MOST_MODULES, MOST_FLOATS, MOST_FLOATS, MOST_FLOATS, MOST_HEIGHTS,
-                                   MOST_FLOATS, MOST_COUNTS, MOST_BYTES, MOST_BYTES, MOST_HEIGHTS};
+                                   MOST_CARD, MOST_FLOATS, MOST_COUNTS, MOST_BYTES, MOST_BYTES, MOST_HEIGHTS, MOST_RESULT};
 
 /* Room for so many bytes and a rim, in whole pages, with a page that may not be touched at either end. */
 struct arena make_arena(size_t size) {

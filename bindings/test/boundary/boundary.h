@@ -12,21 +12,26 @@ enum {
     MOST_FLOATS = 64,
     MOST_COUNTS = 64,
     MOST_HEIGHTS = 256,
+    MOST_CARD = 1 << 16,       /* bytes of a job card that is lent, one more than it may have */
+    MOST_RESULT = 160,         /* bytes of a result card that is lent, and of a buffer for one */
+    NEWER = 105, OLDER = 93,   /* bytes of a result card in either form */
     CANARY = 0xA7,             /* each byte of a buffer before a call */
     RIM = 64,                  /* bytes watched beside a list, on the side that has no guard */
-    NUMBERS = 23
+    NUMBERS = 25
 };
 
 /* ---- the calls */
 
 enum call {
     REFINE, REFINE_MAPPED, REFINE_MARKING, REFINE_MAPPED_MARKING, SAMPLE, TO_SOURCE, SQUARE_TO_QUAD, QUAD_TO_QUAD, MAP, SCALED,
-    INVERSE, THEN, FIT_LINE, INTERSECT, LOCALIZE, LOCALIZE_MAPPED, SQRT, SMOOTH_TO, SMOOTH_OVER, CALLS
+    INVERSE, THEN, FIT_LINE, INTERSECT, LOCALIZE, LOCALIZE_MAPPED, SQRT, SMOOTH_TO, SMOOTH_OVER, RUN_CARD,
+    WIDEN, NARROW, CALLS
 };
 
 /* The lists and buffers that a call can be lent. FIRST is its corners, map, xs or line, SECOND the quad, map, ys or line beside it,
-   THIRD the weights or the camera. HEIGHTS is where a scan is smoothed to, and holds the scan before the call over itself. */
-enum list { BYTES, MODULES, FIRST, SECOND, THIRD, SCAN, VALUES, COUNTS, SHEET, COPY, HEIGHTS, LISTS };
+   THIRD the weights or the camera. HEIGHTS is where a scan is smoothed to, and holds the scan before the call over itself. CARD is
+   a card that is read, and RESULT where a result card is written. */
+enum list { BYTES, MODULES, FIRST, SECOND, THIRD, SCAN, CARD, VALUES, COUNTS, SHEET, COPY, HEIGHTS, RESULT, LISTS };
 
 struct kind {
     const char *name;
@@ -49,11 +54,13 @@ struct job {
     double x[5];        /* the call's floats, in its order */
     bool flag[2];       /* its bools, in its order */
     uint32_t lens;      /* the kind of the camera's lens */
+    bool mapped, whole; /* of a job card: whether it has a camera, and whether it asks for the job's own request */
     size_t len[LISTS];
     const void *contents[LISTS]; /* of what is read: a scene's, or those below; null of a buffer that is only written */
     uint8_t bytes[MOST_BYTES], modules[MOST_MODULES];
     double floats[3][MOST_FLOATS];
     uint16_t scan[MOST_HEIGHTS];
+    uint8_t card[MOST_CARD];
 };
 
 static inline bool lends(const struct job *job, enum list list) { return kinds[job->call].lists >> list & 1; }
@@ -83,6 +90,7 @@ void lay(struct desk *desk, const struct job *job);
 /* ---- making a call, and checking it (calls.c, check.c) */
 
 uint32_t make_call(const struct job *job, const struct desk *desk);
+uint32_t refined(const struct job *job, double places[8], uint32_t counts[20]);
 
 /* What is wrong after a call, or null. */
 const char *wrong_after(const struct job *job, const struct desk *desk, uint32_t number);

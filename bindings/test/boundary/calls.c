@@ -1,4 +1,4 @@
-/* The 19 calls of trufolmesca.h: what each is lent and can return, and how a job is put to it. */
+/* The 22 calls of trufolmesca.h: what each is lent and can return, and how a job is put to it. */
 #include "boundary.h"
 
 #include <string.h>
@@ -37,16 +37,20 @@ const struct kind kinds[CALLS] = {
     [SQRT] = {"sqrt", BIT(VALUES), BIT(0), 1, {0, 0, 0}},
     [SMOOTH_TO] = {"smooth_to", BIT(SCAN) | BIT(HEIGHTS), BIT(0) | BIT(21) | BIT(22), 0, {0, 0, 0}},
     [SMOOTH_OVER] = {"smooth_over", BIT(HEIGHTS), BIT(0) | BIT(21), 0, {0, 0, 0}},
+    [RUN_CARD] = {"run_card", BIT(CARD) | BIT(RESULT), LABEL_NUMBERS | BIT(6) | BIT(12), 0, {0, 0, 0}},
+    [WIDEN] = {"widen_result_card", BIT(CARD) | BIT(RESULT), BIT(0) | BIT(12) | BIT(23), 0, {0, 0, 0}},
+    [NARROW] = {"narrow_result_card", BIT(CARD) | BIT(RESULT), BIT(0) | BIT(12) | BIT(23) | BIT(24), 0, {0, 0, 0}},
 };
 
 /* A refinement can return 11, where a line's arithmetic overflows, but no input is known that gets there: the entry checks bound the
    corners, and no job of tools/judge did (docs/DIFFERENCES.md). So that one is not demanded. */
-unsigned demanded(enum call call) { return kinds[call].numbers & ~(kinds[call].lists & BIT(COUNTS) ? BIT(11) : 0); }
+unsigned demanded(enum call call) { return kinds[call].numbers & ~(kinds[call].lists & BIT(COUNTS) || call == RUN_CARD ? BIT(11) : 0); }
 
-const char *const list_names[LISTS] = {"bytes",  "modules", "the first list", "the second list", "the third list", "the scan",
-                                       "values", "counts",  "the sheet",      "the copy",        "the heights"};
+const char *const list_names[LISTS] = {"bytes",    "modules", "the first list", "the second list", "the third list", "the scan",
+                                       "the card", "values",  "counts",         "the sheet",       "the copy",       "the heights",
+                                       "the result card"};
 const size_t element_sizes[LISTS] = {1, 1, sizeof(double), sizeof(double), sizeof(double), sizeof(uint16_t),
-                                     sizeof(double), sizeof(uint32_t), 1, 1, sizeof(uint16_t)};
+                                     1, sizeof(double), sizeof(uint32_t), 1, 1, sizeof(uint16_t), 1};
 
 #define LENT(type, list) (type *)(void *)d->at[list], j->len[list]
 #define PHOTOGRAPH LENT(const uint8_t, BYTES), j->width, j->height, j->stride
@@ -86,6 +90,19 @@ uint32_t make_call(const struct job *j, const struct desk *d) {
     case SQRT: put_root(j, d); return 0;
     case SMOOTH_TO: return trufolmesca_smooth_to(LENT(const uint16_t, SCAN), j->window, LENT(uint16_t, HEIGHTS));
     case SMOOTH_OVER: return trufolmesca_smooth_over(LENT(uint16_t, HEIGHTS), j->window);
+    case RUN_CARD: return trufolmesca_run_card(LENT(const uint8_t, CARD), LENT(uint8_t, RESULT));
+    case WIDEN: return trufolmesca_widen_result_card(LENT(const uint8_t, CARD), LENT(uint8_t, RESULT));
+    case NARROW: return trufolmesca_narrow_result_card(LENT(const uint8_t, CARD), LENT(uint8_t, RESULT));
     default: return 0;
     }
+}
+
+/* The refinement that a job card asks for, by the call for C. */
+uint32_t refined(const struct job *j, double places[8], uint32_t counts[20]) {
+    const uint8_t *bytes = j->contents[BYTES], *modules = j->contents[MODULES];
+    if (j->mapped)
+        return trufolmesca_refine_corners_mapped(bytes, j->len[BYTES], j->width, j->height, j->stride, modules, j->len[MODULES], j->dim, j->x[0],
+                                                 j->x[1], j->floats[0], 8, j->flag[0], j->floats[2], 13, j->lens, places, 8, counts, 20);
+    return trufolmesca_refine_corners(bytes, j->len[BYTES], j->width, j->height, j->stride, modules, j->len[MODULES], j->dim, j->x[0], j->x[1],
+                                      j->floats[0], 8, j->flag[0], places, 8, counts, 20);
 }

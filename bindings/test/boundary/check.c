@@ -85,6 +85,74 @@ static bool scan_is_right(const struct job *job, const struct desk *desk, uint32
     return all_are((const uint8_t *)(found + written), (room - written) * sizeof *found, CANARY);
 }
 
+/* ---- result cards */
+
+/* The result card of an answer. */
+static void write_card(uint8_t card[NEWER], const double places[8], const uint32_t counts[20]) {
+    static const uint8_t heads[3][3] = {{16, 64, 0}, {19, 28, 0}, {18, 4, 0}};
+    memcpy(card, heads[0], 3);
+    memcpy(card + 3, places, 64);
+    memcpy(card + 67, heads[1], 3);
+    for (size_t e = 0; e < 4; ++e) {
+        for (size_t k = 0; k < 6; ++k) card[70 + 7 * e + k] = (uint8_t)(counts[4 * e + k / 2] >> 8 * (k % 2));
+        card[76 + 7 * e] = (uint8_t)counts[4 * e + 3];
+        card[101 + e] = (uint8_t)counts[16 + e];
+    }
+    memcpy(card + 98, heads[2], 3);
+}
+
+/* The number of a job card, and its result card: the refinement's, where the card asks for the job's own request. */
+static bool run_is_right(const struct job *job, const struct desk *desk, uint32_t number) {
+    const uint8_t *found = desk->at[RESULT];
+    size_t room = job->len[RESULT], written = number == 0 ? NEWER : 0;
+    if (!all_are(found + written, room - written, CANARY)) return false;
+    if (!job->whole || room < NEWER || job->len[CARD] > 65535) return job->whole ? number == 12 : true;
+    double places[8];
+    uint32_t counts[20];
+    uint8_t card[NEWER];
+    uint32_t expected = refined(job, places, counts);
+    write_card(card, places, counts);
+    return number == expected && memcmp(found, card, written) == 0;
+}
+
+/* Where the contents of the next field are, if its tag and length are these; null where not. */
+static const uint8_t *next_field(const uint8_t **at, const uint8_t *end, uint8_t tag, size_t size) {
+    const uint8_t *field = *at;
+    if (!field || (size_t)(end - field) < 3 + size || field[0] != tag || field[1] != size || field[2] != 0) return *at = NULL;
+    *at = field + 3 + size;
+    return field + 3;
+}
+
+/* Whether a converter's number and card are those that the header tells. */
+static bool converted_is_right(const struct job *job, const struct desk *desk, uint32_t number) {
+    const uint8_t *at = desk->at[CARD], *end = at + job->len[CARD], *found = desk->at[RESULT];
+    size_t wide = job->call == NARROW ? 2 : 1, other = 3 - wide, size = other == 2 ? NEWER : OLDER, room = job->len[RESULT];
+    const uint8_t *corners = next_field(&at, end, 16, 64), *stats = next_field(&at, end, wide == 2 ? 19 : 17, 4 * (3 * wide + 1));
+    const uint8_t *flags = next_field(&at, end, 18, 4);
+    bool good = at == end && flags, small = true;
+    uint32_t counts[20] = {0};
+    for (size_t e = 0; good && e < 4; ++e) {
+        const uint8_t *stat = stats + e * (3 * wide + 1);
+        for (size_t k = 0; k < 3; ++k) counts[4 * e + k] = stat[k * wide] + (wide == 2 ? 256u * stat[k * wide + 1] : 0);
+        for (size_t k = 0; k < 3; ++k) small = small && counts[4 * e + k] < 256;
+        counts[4 * e + 3] = stat[3 * wide];
+        counts[16 + e] = flags[e];
+        good = stat[3 * wide] < 2 && flags[e] < 2;
+    }
+    if (number != (!good ? 23 : job->call == NARROW && !small ? 24 : room < size ? 12 : 0)) return false;
+    size_t written = number == 0 ? size : 0;
+    if (!all_are(found + written, room - written, CANARY)) return false;
+    if (number) return true;
+    double places[8];
+    uint8_t card[NEWER];
+    memcpy(places, corners, sizeof places);
+    write_card(card, places, counts);
+    if (job->call == WIDEN) return memcmp(found, card, NEWER) == 0;
+    bool same = memcmp(found, card, 67) == 0 && found[67] == 17 && found[68] == 16 && found[69] == 0 && memcmp(found + 86, card + 98, 7) == 0;
+    for (size_t i = 0; i < 16; ++i) same = same && found[70 + i] == counts[i];
+    return same;
+}
+
 const char *wrong_after(const struct job *job, const struct desk *desk, uint32_t number) {
     const struct kind *kind = &kinds[job->call];
     if (number >= NUMBERS || !(kind->numbers >> number & 1)) return "the number is none of this call's";
@@ -93,6 +161,8 @@ const char *wrong_after(const struct job *job, const struct desk *desk, uint32_t
         if (!rim_is_kept(job, desk, (enum list)list)) return "a byte beside a list was written";
         if (!is_buffer((enum list)list) && !input_is_kept(job, desk, (enum list)list)) return "a list that is read was changed";
     }
+    if (job->call == RUN_CARD) return run_is_right(job, desk, number) ? NULL : "the result card is not the refinement's";
+    if (lends(job, RESULT)) return converted_is_right(job, desk, number) ? NULL : "the result card is not converted as the header says";
     if (lends(job, HEIGHTS)) return scan_is_right(job, desk, number) ? NULL : "the scan is not smoothed as the header says";
     if (!buffer_is_right(job, desk, VALUES, kind->values, number != 0)) return "the values are not written as the header says";
     if (job->call == SQRT && !root_is_right(job, desk)) return "the root is not the processor's";

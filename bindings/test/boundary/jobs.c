@@ -281,6 +281,86 @@ static void make_scan(struct job *j, struct random *r) {
     j->contents[read] = j->scan;
 }
 
+/* ---- cards */
+
+/* Puts a field behind those that a card has; one that is too long for its length makes a card that asks for something else. */
+static void put_field(struct job *j, uint8_t tag, const void *first, size_t first_len, const void *rest, size_t rest_len) {
+    size_t n = first_len + rest_len, at = j->len[CARD];
+    if (n > 65535 || at + 3 + n > MOST_CARD) {
+        j->whole = false;
+        return;
+    }
+    uint8_t *to = j->card + at;
+    to[0] = tag;
+    to[1] = (uint8_t)n;
+    to[2] = (uint8_t)(n >> 8);
+    if (first_len) memcpy(to + 3, first, first_len);
+    if (rest_len) memcpy(to + 3 + first_len, rest, rest_len);
+    j->len[CARD] = at + 3 + n;
+}
+
+/* The fields of a job's request, as far as a card can hold it. */
+static void put_request(struct job *j, bool mapped) {
+    const uint32_t sides[3] = {j->width, j->height, j->stride};
+    uint8_t bytes[6], dim = (uint8_t)j->dim, polarity = j->flag[0], lens = (uint8_t)j->lens;
+    for (int i = 0; i < 6; ++i) bytes[i] = (uint8_t)(sides[i / 2] >> 8 * (i % 2));
+    j->whole = (sides[0] | sides[1] | sides[2]) < 65536 && j->dim < 256 && j->len[FIRST] == CORNERS && j->len[MODULES] > 0
+               && (!mapped || (j->lens < 3 && j->len[THIRD] == 13));
+    put_field(j, 1, bytes, sizeof bytes, NULL, 0);
+    put_field(j, 2, j->contents[BYTES], j->len[BYTES], NULL, 0);
+    put_field(j, 3, &dim, 1, j->contents[MODULES], j->len[MODULES]);
+    put_field(j, 4, j->x, 2 * sizeof(double), NULL, 0);
+    put_field(j, 5, j->floats[0], CORNERS * sizeof(double), NULL, 0);
+    put_field(j, 6, &polarity, 1, NULL, 0);
+    if (!mapped) return;
+    put_field(j, 7, j->floats[2], 8 * sizeof(double), NULL, 0);
+    put_field(j, 8, &lens, 1, j->floats[2] + 8, (j->lens == 0 ? 0 : j->lens == 1 ? 5 : 4) * sizeof(double));
+}
+
+/* A card with a byte changed, or cut, or with a byte more. */
+static void spoil_card(struct job *j, struct random *r, size_t most) {
+    size_t n = j->len[CARD];
+    j->whole = false;
+    switch (below(r, 3)) {
+    case 0: if (n) j->card[below(r, (uint32_t)n)] = (uint8_t)any_bits(r); break;
+    case 1: j->len[CARD] = n ? below(r, (uint32_t)n) : 0; break;
+    default: j->len[CARD] = n < most ? n + 1 : n; break;
+    }
+}
+
+/* A job card of a refinement, and mostly room for its result card. */
+static void make_job_card(struct job *j, struct random *r) {
+    j->mapped = chance(r, 50);
+    j->call = j->mapped ? REFINE_MAPPED : REFINE;
+    make_refinement(j, r);
+    j->call = RUN_CARD;
+    put_request(j, j->mapped);
+    j->contents[CARD] = j->card;
+    if (chance(r, 20)) spoil_card(j, r, MOST_CARD);
+    j->len[RESULT] = chance(r, 85) ? NEWER + below(r, MOST_RESULT - NEWER + 1) : any_length(r, NEWER, MOST_RESULT);
+}
+
+/* A result card of either form, of any corners, mostly of the form that is asked for, with small counts and in order. */
+static void make_result_card(struct job *j, struct random *r) {
+    bool newer = (j->call == NARROW) != chance(r, 10);
+    size_t wide = newer ? 2 : 1, room = j->call == WIDEN ? NEWER : OLDER;
+    uint8_t bytes[64], stats[28], flags[4];
+    for (int i = 0; i < 64; ++i) bytes[i] = (uint8_t)any_bits(r);
+    for (size_t i = 0; i < sizeof stats; ++i) stats[i] = (uint8_t)any_bits(r);
+    for (size_t e = 0; e < 4; ++e) {
+        for (size_t k = 0; wide == 2 && k < 3; ++k)
+            if (chance(r, 97)) stats[e * 7 + 2 * k + 1] = 0;
+        stats[e * (3 * wide + 1) + 3 * wide] = chance(r, 98) ? (uint8_t)below(r, 2) : (uint8_t)any_bits(r);
+        flags[e] = chance(r, 98) ? (uint8_t)below(r, 2) : (uint8_t)any_bits(r);
+    }
+    put_field(j, 16, bytes, sizeof bytes, NULL, 0);
+    put_field(j, newer ? 19 : 17, stats, 4 * (3 * wide + 1), NULL, 0);
+    put_field(j, 18, flags, sizeof flags, NULL, 0);
+    j->contents[CARD] = j->card;
+    if (chance(r, 20)) spoil_card(j, r, MOST_RESULT);
+    j->len[RESULT] = chance(r, 85) ? room + below(r, (uint32_t)(MOST_RESULT - room) + 1) : any_length(r, room, MOST_RESULT);
+}
+
 /* ---- all */
 
 /* The job of this index: the calls come in turn. */
@@ -299,6 +379,8 @@ void make_job(struct job *j, uint64_t seed, uint64_t index) {
     case INTERSECT: make_lines(j, &r); break;
     case SQRT: j->x[0] = any_float(&r); break;
     case SMOOTH_TO: case SMOOTH_OVER: make_scan(j, &r); break;
+    case RUN_CARD: make_job_card(j, &r); break;
+    case WIDEN: case NARROW: make_result_card(j, &r); break;
     default: make_lists(j, &r); break;
     }
     j->len[VALUES] = j->call == SQRT ? 1 : any_length(&r, kinds[j->call].values, MOST_FLOATS);

@@ -6,7 +6,7 @@ use corners::Answer;
 use job::{modules_of, photograph_of, request_of};
 use job_card::well_formed;
 use number::Refusal;
-use result_card::{RESULT_SIZE, put_result};
+use result_card::{Form, put_result};
 
 // The answer of a job card: refused by `Card` where it is malformed, else that of the refinement it asks for.
 pub fn run_job(card: &[u8]) -> Answer
@@ -18,13 +18,13 @@ pub fn run_job(card: &[u8]) -> Answer
     refine::refine_corners_mapped(photograph_of(card), modules_of(card), request_of(card))
 }
 
-// Runs a job card into a buffer: refused as the job is, and by `Card` where the buffer is under 93 bytes; writes the result
+// Runs a job card into a buffer: refused as the job is, and by `Card` where the buffer is under 105 bytes; writes the result
 // card to the front of the buffer for an answer alone.
 pub fn run_card(card: &[u8], out: &mut [u8]) -> Result<(), Refusal>
     ensures value { result ≡ run_end card.now out.old }
     ensures out_after { out.new ≡ run_leaves card.now out.old }
 {
-    if out.len() < RESULT_SIZE {
+    if out.len() < Form::Newer.size() {
         return Err(Refusal::Card);
     }
     put_result(out, run_job(card)?);

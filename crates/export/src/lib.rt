@@ -3,4 +3,5 @@
 #![tactic(auto)]
 
 mod calls; // calls.rt: the refinement calls
+mod card_calls; // card_calls.rt: the calls over cards
 mod leaf_calls; // leaf_calls.rt: the leaf calls

@@ -2,7 +2,7 @@
 -- Definitions only, to be believed.
 use Rattle.std.specs.Prelude.{ℕ, Result, Ok, Err}
 use Rattle.number.specs.declared.Refusal.{Refusal}
-use Rattle.number.specs.declared.Refusal.TheVariants.{Size, Photograph, Grid, Scale, Corner, Lens, Sheet, Quad, Thin, Line, Overflow, Card, Points, Pairing, Finite, Weight, Outside, Parallel, Profile, Place, Window, Room}
+use Rattle.number.specs.declared.Refusal.TheVariants.{Size, Photograph, Grid, Scale, Corner, Lens, Sheet, Quad, Thin, Line, Overflow, Card, Points, Pairing, Finite, Weight, Outside, Parallel, Profile, Place, Window, Room, Form, Count}
 
 abbrev pub answer : ℕ
 answer = 0
@@ -52,6 +52,10 @@ number Place = 20
 number Window = 21
 -- a smoothed scan does not fit where it is to be written
 number Room = 22
+-- a result card is malformed, or of the other form
+number Form = 23
+-- a count is above 255, the largest of an older result card
+number Count = 24
 
 -- what a call returns has a number: 0 where it is an answer, and else that of its refusal
 abbrev pub number_of : {A : Type 0} → Result A Refusal → ℕ

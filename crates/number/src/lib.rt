@@ -55,6 +55,10 @@ pub enum Refusal {
     Window,
     // A smoothed scan does not fit where it is to be written.
     Room,
+    // A result card is malformed, or of the other form.
+    Form,
+    // A count is above 255, the largest of an older result card.
+    Count,
 }
 
 // The number of a refusal.
@@ -85,6 +89,8 @@ impl From<Refusal> for u32 {
             Refusal::Place => 20,
             Refusal::Window => 21,
             Refusal::Room => 22,
+            Refusal::Form => 23,
+            Refusal::Count => 24,
         }
     }
 }

@@ -1,4 +1,7 @@
 -- What the proofs of `result_card` cite.
 pub mod CardLayout
--- a theorem to be read alone
+pub mod Cards
+-- theorems to be read alone
 pub mod RoundTrip
+pub mod Conversion
+pub mod Converters

@@ -1,2 +1,3 @@
 -- What the contracts of `result_card` cite.
 pub mod ResultCard
+pub mod Convert

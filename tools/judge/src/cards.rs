@@ -18,10 +18,10 @@ fn floats(numbers: &[f64]) -> Vec<u8> {
     numbers.iter().flat_map(|x| x.to_le_bytes()).collect()
 }
 
-/// The card that asks for a job, where one can: sizes have two bytes there and dim one.
-fn card(job: &Job) -> Option<Vec<u8>> {
+/// The card that asks for a job, where one of so many bytes for photograph and grid can: sizes have two bytes there and dim one.
+pub fn card(job: &Job, most: usize) -> Option<Vec<u8>> {
     let size = [job.width, job.height, job.stride];
-    if size.iter().any(|&n| n > 65535) || job.dim > 255 || job.bytes.len() + job.modules.len() > LARGEST {
+    if size.iter().any(|&n| n > 65535) || job.dim > 255 || job.bytes.len() + job.modules.len() > most {
         return None;
     }
     let mut card = Vec::new();
@@ -41,6 +41,18 @@ fn card(job: &Job) -> Option<Vec<u8>> {
         field(&mut card, 8, &[&[kind], &floats(c.lens.coefficients())[..]].concat());
     }
     Some(card)
+}
+
+/// The result card of an answer.
+pub fn result(o: &Outcome) -> Vec<u8> {
+    let bits = |x: f64| if x.is_nan() { 0x7ff8 << 48 } else { x.to_bits() };
+    let corners: Vec<u8> = o.corners.as_flattened().iter().flat_map(|&x| bits(x).to_le_bytes()).collect();
+    let edge = |e: usize| [&o.counts[e].map(|n| (n as u16).to_le_bytes()).concat()[..], &[o.valid[e] as u8]].concat();
+    let mut card = Vec::new();
+    field(&mut card, 16, &corners);
+    field(&mut card, 19, &[0, 1, 2, 3].map(edge).concat());
+    field(&mut card, 18, &o.refined.map(|flag| flag as u8));
+    card
 }
 
 fn numbers<const N: usize>(contents: &[u8]) -> [f64; N] {
@@ -143,7 +155,7 @@ pub fn run(options: &Options) -> bool {
     let mut kept: BTreeMap<(u32, bool, bool, String, bool, bool), Vec<(Vec<u8>, String)>> = BTreeMap::new();
     for seed in 0..options.seeds {
         let job = families::job(seed, options.family);
-        let Some(card) = card(&job) else { continue };
+        let Some(card) = card(&job, LARGEST) else { continue };
         let Ok(seen) = oracle::judge(&job) else { continue };
         let o = &seen.outcome;
         // The comparison counts both zeros alike, a stored line does not.

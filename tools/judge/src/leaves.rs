@@ -528,6 +528,49 @@ fn smooth(r: &mut Rng) -> Case {
     }
 }
 
+/// A result card, mostly of the form whose counts have so many bytes, in order and of small counts.
+fn result_card(r: &mut Rng, wide: usize) -> Vec<u8> {
+    let wide = if r.chance(0.05) { 3 - wide } else { wide };
+    let mut card = [&[16, 64, 0], &r.bytes(64)[..], &[if wide == 1 { 17 } else { 19 }, 12 * wide as u8 + 4, 0]].concat();
+    for _ in 0..4 {
+        for _ in 0..3 {
+            card.extend(&[r.below(256) as u8, if r.chance(0.01) { 1 } else { 0 }][..wide]);
+        }
+        card.push(r.below(2) as u8);
+    }
+    card.extend([18, 4, 0]);
+    card.extend((0..4).map(|_| r.below(2) as u8));
+    match r.below(6) {
+        0 => card.truncate(r.below(card.len() as u64 + 1) as usize),
+        1 => card.push(r.below(256) as u8),
+        2 => {
+            let at = r.below(card.len() as u64) as usize;
+            card[at] = r.pick(&[0, 1, 2, 16, 17, 18, 19, 255]);
+        }
+        _ => {}
+    }
+    card
+}
+
+/// Both converters of result cards, held against document 02's words.
+fn convert(r: &mut Rng) -> Case {
+    let wide = if r.chance(0.5) { 1 } else { 2 };
+    let card = result_card(r, wide);
+    let room = if r.chance(0.2) { r.below(110) } else { 93 + r.below(20) } as usize;
+    let before: Vec<u8> = (0..room as u8).map(|i| 100 + i).collect();
+    let (mut expected, mut found) = (before.clone(), before.clone());
+    let number = rules::convert(&card, wide, &mut expected);
+    let port = if wide == 1 { port::widen_result_card(&card, &mut found) } else { port::narrow_result_card(&card, &mut found) };
+    let values = |bytes: &[u8]| bytes.iter().map(|&b| f64::from(b)).collect::<Vec<_>>();
+    let changed = |number: u32, after: &[u8]| (number, if number != 0 && after == before { vec![] } else { values(after) });
+    Case {
+        name: if wide == 1 { "widen_result_card" } else { "narrow_result_card" },
+        input: format!("{card:?}, room {room}"),
+        rust: changed(number, &expected),
+        port: port.map(|number| changed(number, &found)),
+    }
+}
+
 type Leaf = (u64, fn(&mut Rng) -> Case);
 
 /// How often, in so many in all.
@@ -547,6 +590,7 @@ const LEAVES: &[Leaf] = &[
     (10, localize),
     (6, root),
     (8, smooth),
+    (8, convert),
 ];
 
 /// Whether all agreed.

@@ -179,3 +179,15 @@ pub fn smooth_to(scan: &[u16], window: u32, out: &mut [u16]) -> Option<u32> {
 pub fn smooth_over(scan: &mut [u16], window: u32) -> Option<u32> {
     cfg!(port).then(|| raw::smooth_over(scan, window))
 }
+
+pub fn run_card(card: &[u8], out: &mut [u8]) -> Option<u32> {
+    cfg!(port).then(|| raw::run_card(card, out))
+}
+
+pub fn widen_result_card(card: &[u8], out: &mut [u8]) -> Option<u32> {
+    cfg!(port).then(|| raw::widen_result_card(card, out))
+}
+
+pub fn narrow_result_card(card: &[u8], out: &mut [u8]) -> Option<u32> {
+    cfg!(port).then(|| raw::narrow_result_card(card, out))
+}

@@ -1,5 +1,5 @@
 //! The documents' own rules, for what lies outside the comparison with the Rust: document 01's
-//! entry checks, and document 02's smoothing, of which there is no Rust.
+//! entry checks, and document 02's smoothing and its result cards, of which there is no Rust.
 use crate::job::{Camera, Job};
 
 /// 1 and 2; 0 where neither refuses.
@@ -69,5 +69,48 @@ pub fn smooth(scan: &[u16], window: u32, out: &mut [u16]) -> u32 {
         let heights: Vec<u64> = (0..scan.len()).filter(in_window).map(|k| u64::from(scan[k])).collect();
         *height = (heights.iter().sum::<u64>() / heights.len() as u64) as u16;
     }
+    0
+}
+
+/// Contents and rest of a field of this tag and this length; none where it is another.
+fn field(card: &[u8], tag: u8, size: usize) -> Option<(&[u8], &[u8])> {
+    let rest = card.strip_prefix(&[tag, size as u8, 0])?;
+    rest.split_at_checked(size)
+}
+
+/// Corners, counts and flags of a result card whose counts have so many bytes each.
+fn parts(card: &[u8], wide: usize) -> Option<(&[u8], &[u8], &[u8])> {
+    let size = 3 * wide + 1;
+    let (corners, rest) = field(card, 16, 64)?;
+    let (stats, rest) = field(rest, if wide == 1 { 17 } else { 19 }, 4 * size)?;
+    let (flags, rest) = field(rest, 18, 4)?;
+    let bits = stats.iter().skip(3 * wide).step_by(size).chain(flags).all(|&b| b < 2);
+    (rest.is_empty() && bits).then_some((corners, stats, flags))
+}
+
+/// Makes a result card one of the other form, at the front of `out`; 23, 24 or 12, which leave it as it was, else 0. `wide` is how
+/// many bytes a count of the card has: 1 of an older one, which is widened, and 2 of a newer one, which is narrowed.
+pub fn convert(card: &[u8], wide: usize, out: &mut [u8]) -> u32 {
+    let Some((corners, stats, flags)) = parts(card, wide) else {
+        return 23;
+    };
+    let mut counts = Vec::new();
+    for edge in stats.chunks(3 * wide + 1) {
+        for count in edge[..3 * wide].chunks(wide) {
+            match (wide, count) {
+                (1, _) => counts.extend([count[0], 0]),
+                (_, [low, 0]) => counts.push(*low),
+                _ => return 24,
+            }
+        }
+        counts.push(edge[3 * wide]);
+    }
+    let tag = if wide == 1 { 19 } else { 17 };
+    let head = |tag: u8, n: usize| vec![tag, n as u8, 0];
+    let made = [&head(16, 64)[..], corners, &head(tag, counts.len()), &counts, &head(18, 4), flags].concat();
+    if out.len() < made.len() {
+        return 12;
+    }
+    out[..made.len()].copy_from_slice(&made);
     0
 }
