@@ -3,10 +3,10 @@
    libtrufolmesca.so, which `make` builds; x86-64 Linux.
 
    The short way is a struct trufolmesca_request and the two calls over it, at the end;
-   trufolmesca_word says a number in words. These are C of this header. The 22 calls before them are
+   trufolmesca_word says a number in words. These are C of this header. The 25 calls before them are
    the library's, each proved to meet its contract.
 
-   Calling it: a call needs less than 10 KB (10,240 bytes) of stack, takes no memory, keeps no state
+   Calling it: a call needs less than 20 KB (20,480 bytes) of stack, takes no memory, keeps no state
    and is reentrant, so threads may call it at once on buffers of their own. A bool is exactly 0 or
    1. The photograph, the sheet and the copy are never one buffer, nor do a buffer and another list
    of the same call overlap. The processor's rounding mode, flush-to-zero and denormals-are-zero are
@@ -20,8 +20,9 @@
    refuses returns its number and writes zeros to places, counts, value, point, map or line; 0 is an
    answer. Numbers past the end of a list that is read are NaN, and values past the end of a buffer
    are left out, so that no length is undefined behaviour. Such a NaN is treated as any other: a
-   refinement refuses it, 5 in the corners and 6 in a camera, and a call that takes any floats
-   computes with it: trufolmesca_square_to_quad of an empty list returns 0, and a map with NaNs.
+   refinement refuses it, 5 in the corners, 6 in a camera and 25 in settings, and a call that takes
+   any floats computes with it: trufolmesca_square_to_quad of an empty list returns 0, and a map
+   with NaNs.
    The calls that smooth a scan and those over cards differ: a refusal writes nothing, and a buffer
    that is too short is refused. Lists and buffers must not overlap a buffer of the same call, and a
    pointer is not null, also where its length is 0.
@@ -32,6 +33,11 @@
               then the coefficients of the lens, whose kind goes beside the list as `lens`:
               0 no lens, and no coefficient is read; 1 Brown-Conrady: k1, k2, p1, p2, k3; 2 fisheye,
               as OpenCV has it: k1, k2, k3, k4. Any other kind is refused by 6
+     settings the nine numbers that a refinement goes by, in the order of struct
+              trufolmesca_settings, which has their ranges; TRUFOLMESCA_DEFAULT_SETTINGS are those
+              of the calls without settings. A number that is out of its range, a NaN, or not whole
+              where it must be is refused by 25, and so is a list of fewer than nine; what stands
+              behind the ninth is not read
      modules  one byte a module by rows, 1 dark
      map      a11, a21, a31, a12, a22, a32, a13, a23, a33
      line     the centroid's x and y, then the direction's
@@ -113,7 +119,9 @@ enum {
     /* A result card is malformed, or of the other form. */
     TRUFOLMESCA_FORM = 23,
     /* A count of a result card is above 255. */
-    TRUFOLMESCA_COUNT = 24
+    TRUFOLMESCA_COUNT = 24,
+    /* A setting is out of its range, not finite, or not whole where it must be. */
+    TRUFOLMESCA_SETTINGS = 25
 };
 
 /* The bytes of a result card, and of one in the older form, whose counts have a byte each. */
@@ -125,6 +133,11 @@ enum { TRUFOLMESCA_RESULT_CARD_SIZE = 105, TRUFOLMESCA_OLDER_RESULT_CARD_SIZE = 
 #define TRUFOLMESCA_NO_LENS 0
 #define TRUFOLMESCA_BROWN_CONRADY 1
 #define TRUFOLMESCA_FISHEYE 2
+
+/* How many numbers a list of settings has; and those that the calls without settings go by, which
+   an array of doubles or a struct trufolmesca_settings may begin with. */
+enum { TRUFOLMESCA_SETTINGS_SIZE = 9 };
+#define TRUFOLMESCA_DEFAULT_SETTINGS {0.35, 0.7, 1.5, 64, 6, 12, 0.15, 2.0, 2}
 
 /* What GCC and Clang are told of a call: that its number is not to be left unread, and that no
    pointer is null. They warn of a null pointer that they see; nothing looks for one when the call
@@ -178,6 +191,22 @@ TRUFOLMESCA_CALL uint32_t trufolmesca_refine_corners_mapped_marking(
     double *places, size_t places_len, uint32_t *counts, size_t counts_len,
     uint8_t *sheet, size_t sheet_len, uint8_t *copy, size_t copy_len);
 
+/* The same four under settings, through a camera, or without one where its list is empty: then lens
+   is not read. Also 25, behind 1 to 6 and before 7, which leaves sheet and copy as they were. */
+TRUFOLMESCA_CALL uint32_t trufolmesca_refine_corners_with(
+    const uint8_t *bytes, size_t bytes_len, uint32_t width, uint32_t height, uint32_t stride,
+    const uint8_t *modules, size_t modules_len, uint32_t dim, double sx, double sy,
+    const double *corners, size_t corners_len, bool inverted,
+    const double *camera, size_t camera_len, uint32_t lens, const double *settings, size_t settings_len,
+    double *places, size_t places_len, uint32_t *counts, size_t counts_len);
+TRUFOLMESCA_CALL uint32_t trufolmesca_refine_corners_marking_with(
+    const uint8_t *bytes, size_t bytes_len, uint32_t width, uint32_t height, uint32_t stride,
+    const uint8_t *modules, size_t modules_len, uint32_t dim, double sx, double sy,
+    const double *corners, size_t corners_len, bool inverted,
+    const double *camera, size_t camera_len, uint32_t lens, const double *settings, size_t settings_len,
+    double *places, size_t places_len, uint32_t *counts, size_t counts_len,
+    uint8_t *sheet, size_t sheet_len, uint8_t *copy, size_t copy_len);
+
 /* The sample at x, y. border: 0 rejects what lies outside, 1 clamps it, any other number answers it
    with the constant. 1, 2, 17. */
 TRUFOLMESCA_CALL uint32_t trufolmesca_sample_bilinear(
@@ -224,6 +253,14 @@ TRUFOLMESCA_CALL uint32_t trufolmesca_localize_edge_point_mapped(
     const uint8_t *bytes, size_t bytes_len, uint32_t width, uint32_t height, uint32_t stride,
     double coarse_x, double coarse_y, double normal_x, double normal_y, double step, bool inverted, bool inward_differs,
     const double *camera, size_t camera_len, uint32_t lens,
+    double *point, size_t point_len);
+
+/* The same two under settings, through a camera, or without one where its list is empty. All nine
+   are tested, and the contrast floor alone counts. 1, 2, with a camera 6, 25, 19. */
+TRUFOLMESCA_CALL uint32_t trufolmesca_localize_edge_point_with(
+    const uint8_t *bytes, size_t bytes_len, uint32_t width, uint32_t height, uint32_t stride,
+    double coarse_x, double coarse_y, double normal_x, double normal_y, double step, bool inverted, bool inward_differs,
+    const double *camera, size_t camera_len, uint32_t lens, const double *settings, size_t settings_len,
     double *point, size_t point_len);
 
 /* A scan, smoothed: each height becomes the mean, rounded down, of the `window` heights around it,
@@ -283,6 +320,7 @@ static inline const char *trufolmesca_word(uint32_t number) {
     case TRUFOLMESCA_ROOM: return "the smoothed scan does not fit where it is to be written";
     case TRUFOLMESCA_FORM: return "the result card is malformed, or of the other form";
     case TRUFOLMESCA_COUNT: return "a count is above 255, and the older form has no room for it";
+    case TRUFOLMESCA_SETTINGS: return "a setting is out of its range or not finite";
     default: return "a number that this version does not know";
     }
 }
@@ -321,10 +359,30 @@ struct trufolmesca_camera {
     double k1, k2, p1, p2, k3, k4;
 };
 
+/* The numbers that a refinement goes by, in the order of the list `settings`. Both ends of a range
+   belong to it; the default stands in brackets. */
+struct trufolmesca_settings {
+    /* Where in each dark module at the label's rim its two probes stand: 0 to 1 (0.35 and 0.7). */
+    double probe_fraction_first, probe_fraction_second;
+    /* The modules without probes at each end of an edge: 1 to 10 (1.5). */
+    double edge_margin_modules;
+    /* The most probes of an edge, 1 to 354 (64); and the least points of its line, 2 to 354 (6). */
+    uint32_t max_points_per_edge, min_edge_points;
+    /* By how many grey levels dark and light differ at least where a probe finds its point: 1 to
+       255 (12). */
+    uint32_t contrast_floor;
+    /* A point is an outlier where its distance from the line is above so many modules, 0 to 100
+       (0.15), and above so many times the median distance, 0 to 100 (2). */
+    double outlier_floor_modules, outlier_median_multiplier;
+    /* The rounds, each from the corners of the last: 1 to 4 (2). */
+    uint32_t rounds;
+};
+
 /* What is asked: the rough corners (top left, top right, bottom right, bottom left) are in working
    pixels, of which there are sx and sy for each pixel of the photograph, or with a camera for each
    rectified pixel: 1 and 1 where the corners are of the photograph itself. A request that begins as
-   zeros has neither, and is refused until both are set. camera is null where there is none. */
+   zeros has neither, and is refused until both are set. camera is null where there is none, settings
+   where they are the defaults. */
 struct trufolmesca_request {
     struct trufolmesca_photograph photograph;
     struct trufolmesca_label label;
@@ -332,6 +390,7 @@ struct trufolmesca_request {
     struct trufolmesca_place corners[4];
     bool inverted;
     const struct trufolmesca_camera *camera;
+    const struct trufolmesca_settings *settings;
 };
 
 /* What is counted of an edge: points probed, points in its line, points dropped as outliers, and
@@ -353,7 +412,8 @@ struct trufolmesca_answer {
 struct trufolmesca_lists {
     const uint8_t *bytes, *modules;
     size_t bytes_len, modules_len;
-    double corners[8], camera[13];
+    double corners[8], camera[13], settings[TRUFOLMESCA_SETTINGS_SIZE];
+    size_t camera_len;
     uint32_t lens;
 };
 
@@ -376,7 +436,22 @@ static inline void trufolmesca_camera_list(const struct trufolmesca_camera *came
     list[12] = fisheye ? 0.0 : camera->k3;
 }
 
-/* The lists of a request: of a null pointer an empty one, and without a camera none is written. */
+/* Settings as the list of their nine numbers. */
+static inline void trufolmesca_settings_list(
+    const struct trufolmesca_settings *settings, double list[TRUFOLMESCA_SETTINGS_SIZE]) {
+    list[0] = settings->probe_fraction_first;
+    list[1] = settings->probe_fraction_second;
+    list[2] = settings->edge_margin_modules;
+    list[3] = settings->max_points_per_edge;
+    list[4] = settings->min_edge_points;
+    list[5] = settings->contrast_floor;
+    list[6] = settings->outlier_floor_modules;
+    list[7] = settings->outlier_median_multiplier;
+    list[8] = settings->rounds;
+}
+
+/* The lists of a request: of a null pointer an empty one, and without settings theirs is not
+   written. */
 static inline void trufolmesca_lists_of(const struct trufolmesca_request *request, struct trufolmesca_lists *lists) {
     static const uint8_t none = 0;
     const struct trufolmesca_photograph photograph = request->photograph;
@@ -391,7 +466,10 @@ static inline void trufolmesca_lists_of(const struct trufolmesca_request *reques
         lists->corners[2 * i + 1] = request->corners[i].y;
     }
     lists->lens = request->camera ? request->camera->lens : TRUFOLMESCA_NO_LENS;
+    lists->camera_len = request->camera ? 13 : 0;
+    for (i = 0; i < 13; ++i) lists->camera[i] = 0.0;
     if (request->camera) trufolmesca_camera_list(request->camera, lists->camera);
+    if (request->settings) trufolmesca_settings_list(request->settings, lists->settings);
 }
 
 /* An answer, from the buffers that one of the library's calls has written. */
@@ -409,20 +487,24 @@ static inline void trufolmesca_answer_of(
     }
 }
 
-/* The arguments by which all four refinement calls begin. */
+/* The arguments by which all six refinement calls begin, and those behind them under settings. */
 #define TRUFOLMESCA_ASKED \
     l.bytes, l.bytes_len, request->photograph.width, request->photograph.height, request->photograph.stride, l.modules, \
         l.modules_len, request->label.dim, request->sx, request->sy, l.corners, 8, request->inverted
+#define TRUFOLMESCA_GIVEN l.camera, l.camera_len, l.lens, l.settings, TRUFOLMESCA_SETTINGS_SIZE
 
-/* trufolmesca_refine_corners, or with a camera trufolmesca_refine_corners_mapped, over a request. A
-   null pointer in it is an empty list: 2 or 3. */
+/* trufolmesca_refine_corners over a request, or with a camera trufolmesca_refine_corners_mapped, or
+   with settings trufolmesca_refine_corners_with. A null pointer to bytes or modules is an empty
+   list: 2 or 3. */
 TRUFOLMESCA_OVER_REQUEST static inline uint32_t trufolmesca_refine(
     const struct trufolmesca_request *request, struct trufolmesca_answer *answer) {
     struct trufolmesca_lists l;
     double places[8];
     uint32_t counts[20], number;
     trufolmesca_lists_of(request, &l);
-    if (request->camera)
+    if (request->settings)
+        number = trufolmesca_refine_corners_with(TRUFOLMESCA_ASKED, TRUFOLMESCA_GIVEN, places, 8, counts, 20);
+    else if (request->camera)
         number = trufolmesca_refine_corners_mapped(TRUFOLMESCA_ASKED, l.camera, 13, l.lens, places, 8, counts, 20);
     else
         number = trufolmesca_refine_corners(TRUFOLMESCA_ASKED, places, 8, counts, 20);
@@ -442,7 +524,10 @@ TRUFOLMESCA_OVER_REQUEST static inline uint32_t trufolmesca_refine_marking(
     double places[8];
     uint32_t counts[20], number;
     trufolmesca_lists_of(request, &l);
-    if (request->camera)
+    if (request->settings)
+        number = trufolmesca_refine_corners_marking_with(
+            TRUFOLMESCA_ASKED, TRUFOLMESCA_GIVEN, places, 8, counts, 20, s, s_len, c, c_len);
+    else if (request->camera)
         number = trufolmesca_refine_corners_mapped_marking(
             TRUFOLMESCA_ASKED, l.camera, 13, l.lens, places, 8, counts, 20, s, s_len, c, c_len);
     else
@@ -459,5 +544,6 @@ TRUFOLMESCA_OVER_REQUEST static inline uint32_t trufolmesca_refine_marking(
 #undef TRUFOLMESCA_WRITING
 #undef TRUFOLMESCA_OVER_REQUEST
 #undef TRUFOLMESCA_ASKED
+#undef TRUFOLMESCA_GIVEN
 
 #endif

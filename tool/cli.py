@@ -15,6 +15,7 @@ from tool import Unanswered, printable, reason
 from tool.camera import read_camera
 from tool.many import measure_many, write_summary
 from tool.measure import Options
+from tool.settings import read_settings
 
 ANSWERED, SOME_REFUSED, BAD_USAGE, STOPPED = 0, 1, 2, 130
 
@@ -185,6 +186,9 @@ def _measure_words(measure: argparse.ArgumentParser) -> None:
     measure.add_argument("--prepare", type=preparation, default="auto", metavar="auto|off|SIGMA",
                          help="smooth the picture first: auto, where the label is too sharp for its size (the default); "
                               "never; or always, by a Gaussian of SIGMA pixels. The copy is then of the smoothed picture")
+    measure.add_argument("--settings", type=Path, metavar="FILE",
+                         help="the numbers that the measurement goes by, as for a glossy label: a JSON object with some of the nine "
+                              "settings (docs/GUIDE.md names them); the others are the defaults")
     measure.add_argument("--jobs", type=worker_count, metavar="N", help="photographs worked on at a time")
 
 
@@ -208,7 +212,7 @@ def main(arguments: list[str] | None = None) -> int:
             load_library()  # said at once where it is missing, and not for each photograph
         return {"measure": _measure, "verify": _verify, "report": _report, "smooth": _smooth, "card": _card}[asked.command](asked)
     except (Unanswered, LibraryMissing) as why:
-        print(f"trufolmesca: {why}", file=sys.stderr)
+        print(f"trufolmesca: {printable(str(why))}", file=sys.stderr)
         return BAD_USAGE
     except KeyboardInterrupt:
         print("trufolmesca: stopped; what was written is whole", file=sys.stderr)
@@ -224,8 +228,9 @@ def main(arguments: list[str] | None = None) -> int:
 def _measure(asked: argparse.Namespace) -> int:
     """The command measure."""
     camera, size = read_camera(asked.camera) if asked.camera else (None, None)
+    settings = read_settings(asked.settings) if asked.settings else None
     corners = None if asked.corners is None else np.array(asked.corners).reshape(4, 2)
-    options = Options(corners, asked.grid, camera, size, asked.side_mm, asked.inverted, asked.prepare)
+    options = Options(corners, asked.grid, camera, size, asked.side_mm, asked.inverted, asked.prepare, settings)
     try:
         asked.out.mkdir(parents=True, exist_ok=True)
     except OSError as error:

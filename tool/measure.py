@@ -7,14 +7,14 @@ from pathlib import Path
 
 import cv2
 import numpy as np
-from trufolmesca import Answer, Camera, Number, Refused
+from trufolmesca import Answer, Camera, Number, Refused, Settings
 
 from tool import Unanswered, label, printable
 from tool.blur import expected_error, module_blur
 from tool.camera import to_rectified
 from tool.label import MOST_DISAGREEING, PATTERN_AGREEMENT
 from tool.photograph import Photograph, read_photograph
-from tool.record import Record, bits_of_corners, camera_as_json
+from tool.record import Record, bits_of_corners, camera_as_json, settings_as_json
 from tool.refinement import in_photograph, px_per_mm, refine, run_marking
 
 REPEATED_RUNS = 4
@@ -45,7 +45,7 @@ BACKWARDS = ("The corners go round against the clock: they were given in another
 
 @dataclass(frozen=True)
 class Options:
-    """What a person asked for; corners are in the photograph's pixels."""
+    """What a person asked for; corners are in the photograph's pixels, and without settings the defaults measure."""
 
     corners: np.ndarray | None = None
     grid: np.ndarray | None = None
@@ -54,11 +54,12 @@ class Options:
     side_mm: float | None = None
     inverted: bool = False
     prepare: str | float = "auto"
+    settings: Settings | None = None
 
 
 @dataclass(frozen=True)
 class Request:
-    """One label to be refined: rough corners in the photograph's pixels, modules, polarity, camera."""
+    """One label to be refined: rough corners in the photograph's pixels, modules, polarity, camera, settings."""
 
     rough: np.ndarray
     grid: np.ndarray
@@ -66,6 +67,7 @@ class Request:
     camera: Camera | None = None
     rough_from: str = "given"
     text: str | None = None
+    settings: Settings | None = None
 
     @property
     def corners(self) -> np.ndarray:
@@ -125,22 +127,27 @@ def _measured(photograph: Photograph, request: Request | Unanswered, options: Op
 
 
 def refine_picture(grey: np.ndarray, rough_corners: np.ndarray, grid: np.ndarray, inverted: bool = False,
-                   camera: Camera | None = None, sigma: float | str = 0.0) -> Record:
+                   camera: Camera | None = None, sigma: float | str = 0.0, settings: Settings | None = None) -> Record:
     """One label of a grey picture, refined from rough corners, without any file; sigma as --prepare takes it."""
-    request = Request(np.asarray(rough_corners, float).reshape(4, 2), np.asarray(grid, np.uint8), inverted, camera)
+    request = Request(np.asarray(rough_corners, float).reshape(4, 2), np.asarray(grid, np.uint8), inverted, camera, settings=settings)
     return _refined(grey, request, *preparation(grey, request, "off" if sigma == 0 else sigma))
 
 
 def _given(grey: np.ndarray, options: Options) -> Request:
     """The label whose rough corners were given, with the grid as given or as the picture shows it."""
     if options.grid is not None:
-        return Request(options.corners, options.grid, options.inverted, options.camera, text=label.text_of(options.grid))
+        return _by_hand(options, options.grid, options.inverted)
     corners = to_rectified(options.camera, options.corners)
     for inverted in (True,) if options.inverted else (False, True):
         reading = label.read_grid(grey, corners, options.camera, inverted)
         if reading.agreement >= PATTERN_AGREEMENT:
-            return Request(options.corners, reading.grid, inverted, options.camera, text=label.text_of(reading.grid))
+            return _by_hand(options, reading.grid, inverted)
     raise Unanswered(_unread(grey, corners, options))
+
+
+def _by_hand(options: Options, grid: np.ndarray, inverted: bool) -> Request:
+    """The label whose rough corners were given, with these modules."""
+    return Request(options.corners, grid, inverted, options.camera, text=label.text_of(grid), settings=options.settings)
 
 
 def _unread(grey: np.ndarray, corners: np.ndarray, options: Options) -> str:
@@ -181,7 +188,7 @@ def _request_of(grey: np.ndarray, found: label.Found, options: Options) -> Reque
         fitted, again = corners, reading
     grid = again.grid if options.grid is None else options.grid
     rough = label.to_source(options.camera, fitted)
-    return Request(rough, grid, found.inverted, options.camera, "decoder", found.text)
+    return Request(rough, grid, found.inverted, options.camera, "decoder", found.text, options.settings)
 
 
 def preparation(grey: np.ndarray, request: Request, wish: str | float) -> tuple[float, str]:
@@ -209,7 +216,7 @@ def smoothed(grey: np.ndarray, sigma: float) -> np.ndarray:
 def _refined(grey: np.ndarray, request: Request, sigma: float, sentence: str) -> Record:
     """The record of one refinement: answer, spread, warnings, and the pictures."""
     picture, corners = smoothed(grey, sigma), request.corners
-    run = run_marking(picture, request.grid, corners, request.inverted, request.camera)
+    run = run_marking(picture, request.grid, corners, request.inverted, request.camera, request.settings)
     answer = run.answer
     record = Record(run.number, run.word, "", text=request.text, module_px=request.module_px,
                     rough=request.rough.tolist(), rough_from=request.rough_from,
@@ -234,7 +241,7 @@ def _spread(picture: np.ndarray, request: Request, corners: np.ndarray, places: 
     spread, refusals = 0.0, 0
     for move in moves:
         try:
-            again = refine(picture, request.grid, corners + move, request.inverted, request.camera)
+            again = refine(picture, request.grid, corners + move, request.inverted, request.camera, request.settings)
         except Refused:
             refusals += 1
             continue
@@ -288,7 +295,7 @@ def _request_as_json(picture: np.ndarray, request: Request, corners: np.ndarray)
         "width": width, "height": height, "stride": width, "scale": [1.0, 1.0],
         "corners": corners.tolist(), "corners_bits": bits_of_corners(corners),
         "grid": ["".join(map(str, row)) for row in request.grid.tolist()],
-        "inverted": request.inverted, "camera": camera_as_json(request.camera),
+        "inverted": request.inverted, "camera": camera_as_json(request.camera), "settings": settings_as_json(request.settings),
     }
 
 

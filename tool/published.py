@@ -12,8 +12,9 @@ import cv2
 import numpy as np
 from trufolmesca import Camera, Fisheye, Intrinsics, Lens
 
-from tool import LARGEST_SIDE, reason
+from tool import LARGEST_SIDE, Unanswered, reason
 from tool.record import PICTURES
+from tool.settings import recorded_settings
 
 PNG_SIGNATURE = b"\x89PNG\r\n\x1a\n"
 PICTURE_CHUNKS = {b"IHDR", b"IDAT", b"IEND"}
@@ -43,7 +44,16 @@ def read_fields(path: Path) -> dict[str, Any]:
     for key, (fits, words) in _SHAPES.items():
         if not fits(fields[key]):
             raise Differs(f"the file is damaged: '{key}' is not {words}")
+    _check_settings(fields["request"])
     return fields
+
+
+def _check_settings(request: dict[str, Any] | None) -> None:
+    """Says what is wrong with the settings of a request, if it has any."""
+    try:
+        recorded_settings(request or {})
+    except Unanswered as why:
+        raise Differs(f"the file is damaged in its settings: {why}") from None
 
 
 def _is_number(value: object) -> bool:

@@ -15,7 +15,7 @@ from typing import Any
 import cv2
 import numpy as np
 import trufolmesca
-from trufolmesca import Camera, Marks
+from trufolmesca import Camera, Marks, Settings
 
 PICTURES = ("blanked", "sheet", "overlay")
 
@@ -97,6 +97,12 @@ def camera_as_json(camera: Camera | None) -> dict[str, Any] | None:
     fields = asdict(camera)
     bits = {part: {name: bits_of(value) for name, value in values.items()} for part, values in fields.items() if values}
     return {**fields, "bits": bits}
+
+
+def settings_as_json(settings: Settings | None) -> dict[str, Any]:
+    """All nine settings as decimals and as bits; the defaults too, so that a record says by itself what measured it."""
+    fields = asdict(settings or Settings())
+    return {**fields, "bits": {name: bits_of(value) for name, value in fields.items()}}
 
 
 @lru_cache(maxsize=None)

@@ -5,7 +5,7 @@ from dataclasses import dataclass
 
 import numpy as np
 import trufolmesca
-from trufolmesca import Answer, Camera, Edge, Marks, Number, Refused, word_of
+from trufolmesca import Answer, Camera, Edge, Marks, Number, Refused, Settings, word_of
 
 # What a record says of a refused run: nothing was found of any corner or edge.
 NOTHING = Answer(np.zeros((4, 2)), (False,) * 4, (Edge(0, 0, 0, False),) * 4)
@@ -25,20 +25,22 @@ class Run:
         return word_of(self.number)
 
 
-def refine(picture: np.ndarray, grid: np.ndarray, corners: np.ndarray, inverted: bool, camera: Camera | None) -> Answer:
-    """The refinement, through the camera if there is one."""
+def refine(picture: np.ndarray, grid: np.ndarray, corners: np.ndarray, inverted: bool, camera: Camera | None,
+           settings: Settings | None) -> Answer:
+    """The refinement, through the camera if there is one, and by the defaults where there are no settings."""
     if camera is None:
-        return trufolmesca.refine_corners(picture, grid, corners, inverted=inverted)
-    return trufolmesca.refine_corners_mapped(picture, grid, corners, camera, inverted=inverted)
+        return trufolmesca.refine_corners(picture, grid, corners, inverted=inverted, settings=settings)
+    return trufolmesca.refine_corners_mapped(picture, grid, corners, camera, inverted=inverted, settings=settings)
 
 
-def run_marking(picture: np.ndarray, grid: np.ndarray, corners: np.ndarray, inverted: bool, camera: Camera | None) -> Run:
-    """The refinement with its sheet and copy, through the camera if there is one."""
+def run_marking(picture: np.ndarray, grid: np.ndarray, corners: np.ndarray, inverted: bool, camera: Camera | None,
+                settings: Settings | None) -> Run:
+    """The same refinement, with its sheet and copy."""
     try:
         if camera is None:
-            answer = trufolmesca.refine_corners_marking(picture, grid, corners, inverted=inverted)
+            answer = trufolmesca.refine_corners_marking(picture, grid, corners, inverted=inverted, settings=settings)
         else:
-            answer = trufolmesca.refine_corners_mapped_marking(picture, grid, corners, camera, inverted=inverted)
+            answer = trufolmesca.refine_corners_mapped_marking(picture, grid, corners, camera, inverted=inverted, settings=settings)
     except Refused as refusal:
         return Run(refusal.number, NOTHING, refusal.marks)
     return Run(Number.ANSWER, answer, answer.marks)

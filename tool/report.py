@@ -18,6 +18,9 @@ import cv2
 import jinja2
 import numpy as np
 
+from tool import Unanswered
+from tool.settings import other_than_defaults, recorded_settings
+
 TEMPLATE = Path(__file__).with_name("report.html")
 PAGE = "index.html"
 SMALL = 280  # pixels of the picture that the page itself holds: sharp on any screen, and 200 labels make a page of some 5 MB
@@ -53,6 +56,7 @@ class Row:
     module: Optional[float] = None
     sigma: Optional[float] = None
     prepared: str = ""
+    settings: str = ""
     scale: Optional[float] = None
     read: Optional[int] = None
     part: Optional[float] = None
@@ -131,6 +135,7 @@ def row_of(path: Path, record: Dict[str, Any]) -> Row:
     row.read, row.part = read_of(record, request)
     row.corners, row.edges = corners_of(record, flags), edges_of(record)
     row.facts = facts_of(record, request)
+    name_settings(row, request)
     if row.number == 0 and not row.corners:
         row.warnings.append("The record's corners are not four pairs of numbers.")
     attach(row, path.parent, part_of(record, "files"))
@@ -185,6 +190,16 @@ def facts_of(record: Dict[str, Any], request: Dict[str, Any]) -> List[Tuple[str,
              ("copy's SHA-256", string(record.get("copy_sha256"))),
              ("versions", versions or None)]
     return [(word, value) for word, value in facts if value]
+
+
+def name_settings(row: Row, request: Dict[str, Any]) -> None:
+    """Names the settings that are not the defaults, or says that they cannot be read."""
+    try:
+        settings = recorded_settings(request)
+    except Unanswered as why:
+        row.warnings.append(f"The record's settings are damaged: {why}.")
+    else:
+        row.settings = other_than_defaults(settings) if settings else ""
 
 
 def attach(row: Row, directory: Path, files: Dict[str, Any]) -> None:

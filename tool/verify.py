@@ -11,8 +11,9 @@ from trufolmesca import Number, Refused, archive_sha256, word_of
 
 from tool import Unanswered, printable
 from tool.published import Differs, camera_of, read_fields, read_published
-from tool.record import bits_of, bits_of_corners, camera_as_json, sha256_of_pixels
+from tool.record import bits_of, bits_of_corners, camera_as_json, settings_as_json, sha256_of_pixels
 from tool.refinement import Run, in_photograph, px_per_mm, run_marking
+from tool.settings import recorded_settings
 
 SAME = "the same corners, sheet and copy"
 NOTHING = "refused when it was measured, so there is no copy to verify"
@@ -79,7 +80,10 @@ def _run_again(fields: dict[str, Any], copy: np.ndarray) -> Run:
         raise Differs("the camera of the request was changed: its decimals and its bits are not the same numbers")
     if camera is None and fields["rough"] != request["corners"]:
         raise Differs("a rough corner was changed: it is not the one of the request")
-    return run_marking(copy, grid, corners, request["inverted"], camera)
+    settings = recorded_settings(request)
+    if settings is not None and settings_as_json(settings) != request["settings"]:
+        raise Differs("a setting of the request was changed: its decimals and its bits are not the same number")
+    return run_marking(copy, grid, corners, request["inverted"], camera, settings)
 
 
 def _compare_pixels(fields: dict[str, Any], copy: np.ndarray, sheet: np.ndarray, run: Run) -> None:

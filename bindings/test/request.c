@@ -19,6 +19,7 @@ struct outcome {
 static uint8_t pixels[AREA], modules[DIM * DIM];
 static struct trufolmesca_request request;
 static double camera_list[13];
+static const double *settings_list; /* of the library's own call; null where it goes by the defaults */
 
 static FILE *opened(const char *path) {
     FILE *f = fopen(path, "rb");
@@ -43,6 +44,7 @@ static void read_request(char **paths) {
 #define ASKED \
     p.bytes, p.bytes_len, p.width, p.height, p.stride, modules, DIM * DIM, DIM, request.sx, request.sy, q, 8, request.inverted
 #define CAMERA camera_list, 13, request.camera->lens
+#define GIVEN camera_list, request.camera ? 13 : 0, request.camera ? request.camera->lens : 77, settings_list, 9
 #define ANSWER o->places, 8, o->counts, 20
 #define MARKS o->sheet, AREA, o->copy, AREA
 
@@ -51,7 +53,11 @@ static void run_long(struct outcome *o, bool marking) {
     const struct trufolmesca_photograph p = request.photograph;
     double q[8];
     for (int i = 0; i < 8; ++i) q[i] = i % 2 ? request.corners[i / 2].y : request.corners[i / 2].x;
-    if (marking && request.camera)
+    if (marking && settings_list)
+        o->number = trufolmesca_refine_corners_marking_with(ASKED, GIVEN, ANSWER, MARKS);
+    else if (settings_list)
+        o->number = trufolmesca_refine_corners_with(ASKED, GIVEN, ANSWER);
+    else if (marking && request.camera)
         o->number = trufolmesca_refine_corners_mapped_marking(ASKED, CAMERA, ANSWER, MARKS);
     else if (marking)
         o->number = trufolmesca_refine_corners_marking(ASKED, ANSWER, MARKS);
@@ -108,6 +114,27 @@ static void list_fisheye(const struct trufolmesca_camera *c) {
     memcpy(camera_list, list, sizeof list);
 }
 
+/* Settings on the request, the default ones held against the call without; in lists this file has the header's order for itself. */
+static void compare_settings(struct trufolmesca_camera *camera) {
+    struct trufolmesca_settings settings = TRUFOLMESCA_DEFAULT_SETTINGS;
+    static const double others[9] = {0.25, 0.875, 2.5, 9, 3, 20, 0.0625, 1.75, 3};
+    static const double five_rounds[9] = {0.25, 0.875, 2.5, 9, 3, 20, 0.0625, 1.75, 5};
+    request.settings = &settings;
+    compare("defaults");
+    request.camera = camera;
+    compare("defaults, fisheye");
+    settings = (struct trufolmesca_settings){0.25, 0.875, 2.5, 9, 3, 20, 0.0625, 1.75, 3};
+    settings_list = others;
+    compare("settings, fisheye");
+    request.camera = NULL;
+    compare("settings");
+    settings.rounds = 5;
+    settings_list = five_rounds;
+    compare("five rounds");
+    request.settings = NULL;
+    settings_list = NULL;
+}
+
 int main(int argc, char **argv) {
     if (argc != 4) return 2;
     read_request(argv + 1);
@@ -141,6 +168,9 @@ int main(int argc, char **argv) {
     trufolmesca_camera_list(&camera, camera_list);
     compare("no focal length");
     request.camera = NULL;
+    camera.rectified.fy = 250;
+    trufolmesca_camera_list(&camera, camera_list);
+    compare_settings(&camera);
     compare_nulls();
     return failed;
 }

@@ -15,12 +15,21 @@ each_compiler = pytest.mark.parametrize(("compiler", "language", "standard"), LA
 USING_ALL = """
 #include "trufolmesca.h"
 #include "trufolmesca.h"
-#if defined TRUFOLMESCA_CALL || defined TRUFOLMESCA_WRITING || defined TRUFOLMESCA_OVER_REQUEST || defined TRUFOLMESCA_ASKED
+#if defined TRUFOLMESCA_CALL || defined TRUFOLMESCA_WRITING || defined TRUFOLMESCA_OVER_REQUEST
 #error a macro of the header is left behind
 #endif
+#if defined TRUFOLMESCA_ASKED || defined TRUFOLMESCA_GIVEN
+#error a macro of the header is left behind
+#endif
+static const double defaults[TRUFOLMESCA_SETTINGS_SIZE] = TRUFOLMESCA_DEFAULT_SETTINGS;
+static const struct trufolmesca_settings settings = TRUFOLMESCA_DEFAULT_SETTINGS;
 int main(void) {
-    struct trufolmesca_request request = {{0, 0, 0, 0, 0}, {0, 0, 0}, 1, 1, {{0, 0}, {0, 0}, {0, 0}, {0, 0}}, false, 0};
+    struct trufolmesca_request request = {{0, 0, 0, 0, 0}, {0, 0, 0}, 1, 1, {{0, 0}, {0, 0}, {0, 0}, {0, 0}}, false, 0, &settings};
     struct trufolmesca_answer answer;
+    double list[TRUFOLMESCA_SETTINGS_SIZE];
+    trufolmesca_settings_list(&settings, list);
+    for (int i = 0; i < TRUFOLMESCA_SETTINGS_SIZE; ++i)
+        if (list[i] != defaults[i]) return 1;
     uint32_t number = trufolmesca_refine(&request, &answer) + trufolmesca_refine_marking(&request, &answer, 0, 0, 0, 0);
     return trufolmesca_word(number)[0] == 'x' || trufolmesca_sqrt(4) != 2;
 }
@@ -81,7 +90,7 @@ def test_a_number_that_is_left_unread_is_warned_of(compiler, language, standard,
     short = ["trufolmesca_refine(&r, &a);", "trufolmesca_refine_marking(&r, &a, bytes, 0, bytes, 0);"]
     source = program([*calls, *short]).replace("(void)in_bytes", f"{request} (void)in_bytes")
     warned = warned_lines(source, tmp_path, root, compiler, language, standard, "unused-result")
-    assert len(calls) == 17 and warned == set(range(5, 5 + len(calls) + 2))
+    assert len(calls) == 20 and warned == set(range(5, 5 + len(calls) + 2))
 
 
 @each_compiler
@@ -93,7 +102,7 @@ def test_a_null_pointer_is_warned_of(compiler, language, standard, tmp_path, roo
             passed = ", ".join([*given[:at], "NULL", *given[at + 1:]])
             calls.append(f"{'' if result == 'void' else 'counts[0] = '}trufolmesca_{name}({passed});")
     warned = warned_lines(program(calls), tmp_path, root, compiler, language, standard, "nonnull")
-    assert len(calls) == 64 and warned == set(range(5, 5 + len(calls)))
+    assert len(calls) == 84 and warned == set(range(5, 5 + len(calls)))
 
 
 def printed(body: str, tmp_path, root, archive) -> list[str]:
@@ -111,15 +120,15 @@ def test_the_version_is_that_of_the_repository(version, tmp_path, root, archive)
 
 
 def test_the_words_are_those_of_the_tool(tmp_path, root, archive):
-    lines = printed("for (uint32_t n = 0; n < 27; ++n) puts(trufolmesca_word(n));", tmp_path, root, archive)
-    assert dict(enumerate(lines[:25])) == WORDS
-    assert set(lines[25:]) == {"a number that this version does not know"}
+    lines = printed("for (uint32_t n = 0; n < 28; ++n) puts(trufolmesca_word(n));", tmp_path, root, archive)
+    assert dict(enumerate(lines[:26])) == WORDS
+    assert set(lines[26:]) == {"a number that this version does not know"}
 
 
 def test_every_number_has_a_comment_of_its_own(root):
     header = (root / "bindings/trufolmesca.h").read_text()
     commented = re.findall(r"^    /\* \S.*\. \*/\n    TRUFOLMESCA_\w+ = (\d+),?$", header, re.M)
-    assert [int(number) for number in commented] == list(range(25))
+    assert [int(number) for number in commented] == list(range(26))
 
 
 def test_calls_over_a_request_give_what_the_long_calls_give(tmp_path, root, archive):
@@ -132,5 +141,7 @@ def test_calls_over_a_request_give_what_the_long_calls_give(tmp_path, root, arch
     assert run.stdout.splitlines() == [
         "plain: 0", "plain, marking: 0", "inverted: 9", "inverted, marking: 9", "scaled: 0", "scaled, marking: 0",
         "camera: 0", "camera, marking: 0", "lens: 0", "lens, marking: 0", "fisheye: 0", "fisheye, marking: 0",
-        "fisheye without end: 6", "fisheye without end, marking: 6", "lens 3: 6", "lens 3, marking: 6", "no focal length: 6", "no focal length, marking: 6",
+        "fisheye without end: 6", "fisheye without end, marking: 6", "lens 3: 6", "lens 3, marking: 6",
+        "no focal length: 6", "no focal length, marking: 6", "defaults: 0", "defaults, marking: 0", "defaults, fisheye: 0", "defaults, fisheye, marking: 0", "settings, fisheye: 0",
+        "settings, fisheye, marking: 0", "settings: 0", "settings, marking: 0", "five rounds: 25", "five rounds, marking: 25",
         "no sheet: 7", "no copy: 7", "no modules: 3", "no bytes: 2"]

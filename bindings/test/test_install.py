@@ -3,6 +3,7 @@ from __future__ import annotations
 
 import hashlib
 import json
+import re
 import shutil
 from pathlib import Path
 
@@ -86,9 +87,11 @@ def test_the_version_that_cmake_asks_for(prefix, tmp_path, asked, suits):
 def test_the_shared_object_shows_the_calls_alone(prefix, archive):
     calls = {line.split()[-1] for line in said("nm", "--defined-only", "--extern-only", archive).splitlines() if " T " in line}
     shown = {line.split()[-1] for line in said("nm", "-D", "--defined-only", prefix / "lib/libtrufolmesca.so").splitlines()}
-    assert shown == calls and len(calls) == 22
+    assert shown == calls and len(calls) == 25
     assert (prefix / "lib/libtrufolmesca.a").read_bytes() == archive.read_bytes()
     assert "RWE" not in said("readelf", "-lW", prefix / "lib/libtrufolmesca.so")  # no stack that can be executed
+    # bound when it is loaded: the dynamic linker needs none of a call's stack
+    assert re.search(r"BIND_NOW|FLAGS_1.*NOW", said("readelf", "-dW", prefix / "lib/libtrufolmesca.so"))
 
 
 def test_the_tool(prefix, version, tmp_path):

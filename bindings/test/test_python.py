@@ -9,19 +9,24 @@ import shutil
 import subprocess
 import sys
 from concurrent.futures import ThreadPoolExecutor
+from dataclasses import asdict, replace
 from hashlib import sha256
 from pathlib import Path
 
 import numpy as np
 import pytest
 import trufolmesca
-from trufolmesca import Border, Camera, Fisheye, Intrinsics, Lens, LibraryMissing, Line, Number, Refused
+from trufolmesca import Border, Camera, Fisheye, Intrinsics, Lens, LibraryMissing, Line, Number, Refused, Settings
 from trufolmesca import library as library_module
 from trufolmesca.arguments import photograph_arguments
 
 PLAIN = Intrinsics(300.0, 300.0, 120.0, 120.0)
 CAMERA = Camera(PLAIN, PLAIN)
 NAN_CORNERS = np.full((4, 2), np.nan)
+RANGES = {"probe_fraction_first": (0, 1), "probe_fraction_second": (0, 1), "edge_margin_modules": (1, 10), "max_points_per_edge": (1, 354),
+          "min_edge_points": (2, 354), "contrast_floor": (1, 255), "outlier_floor_modules": (0, 100),
+          "outlier_median_multiplier": (0, 100), "rounds": (1, 4)}
+WHOLE = ("max_points_per_edge", "min_edge_points", "contrast_floor", "rounds")
 SCAN = np.zeros(5, np.uint16)
 C_TYPES = {"uint32_t": ctypes.c_uint32, "uint8_t": ctypes.c_uint8, "size_t": ctypes.c_size_t, "double": ctypes.c_double,
            "bool": ctypes.c_bool, "void": None}
@@ -150,6 +155,94 @@ def test_a_place_behind_a_fisheye(example):
     assert marked.corners == pytest.approx(trufolmesca.refine_corners(*example).corners, abs=0.01)
     again = trufolmesca.refine_corners_mapped_marking(marked.marks.copy, *example[1:], straight)
     assert printed(again) == printed(marked) and (again.marks.sheet == marked.marks.sheet).all()
+
+
+# ---- settings
+
+
+def test_the_default_settings_give_what_the_calls_without_settings_give(example):
+    for settings in (Settings(), Settings(max_points_per_edge=np.float32(64.0), rounds=np.uint8(2))):
+        assert printed(trufolmesca.refine_corners(*example, settings=settings)) == printed(trufolmesca.refine_corners(*example))
+        through = trufolmesca.refine_corners_mapped(*example, CAMERA, settings=settings)
+        assert printed(through) == printed(trufolmesca.refine_corners_mapped(*example, CAMERA))
+        plain, marked = trufolmesca.refine_corners_marking(*example), trufolmesca.refine_corners_marking(*example, settings=settings)
+        assert printed(marked) == printed(plain) and (marked.marks.sheet == plain.marks.sheet).all()
+        bent = Camera(PLAIN, PLAIN, Lens(-0.001, 0.0005, 0.0001, 0.0002, 0.0))
+        plain = trufolmesca.refine_corners_mapped_marking(*example, bent)
+        marked = trufolmesca.refine_corners_mapped_marking(*example, bent, settings=settings)
+        assert printed(marked) == printed(plain) and (marked.marks.copy == plain.marks.copy).all()
+
+
+def test_the_defaults_are_those_of_the_library(root):
+    source = (root / "crates/consts/src/lib.rt").read_text().split("pub fn defaults()")[1].split("\n}")[0]
+    assert {name: float(value) for name, value in re.findall(r"(\w+): ([0-9.]+),", source)} == asdict(Settings())
+
+
+def test_every_setting_is_handed_on_in_its_place(example):
+    plain = trufolmesca.refine_corners_marking(*example)
+    others = {"probe_fraction_first": 0.2, "probe_fraction_second": 0.9, "edge_margin_modules": 5.0, "max_points_per_edge": 10,
+              "min_edge_points": 28, "contrast_floor": 160, "outlier_floor_modules": 0.3, "outlier_median_multiplier": 0.5, "rounds": 1}
+    narrow = Settings(outlier_floor_modules=0.0, outlier_median_multiplier=1.0)
+    for name, value in others.items():
+        base = narrow if name.startswith("outlier") else Settings()
+        before, after = (trufolmesca.refine_corners_marking(*example, settings=settings) for settings in (base, replace(base, **{name: value})))
+        assert printed(after) != printed(before) or (after.marks.sheet != before.marks.sheet).any(), name
+        if name == "max_points_per_edge":
+            assert max(edge.probed for edge in after.edges) == 10
+        if name == "min_edge_points":
+            assert [edge.valid for edge in after.edges] == [edge.fit >= 28 for edge in plain.edges]
+        if name == "rounds":
+            assert after.marks.sheet.sum() < before.marks.sheet.sum()
+
+
+def test_the_copy_gives_the_same_again_under_the_same_settings(example):
+    settings = Settings(0.1, 0.9, 2.0, 354, 4, 30, 0.05, 3.0, 4)
+    for camera in ((), (CAMERA,)):
+        call = trufolmesca.refine_corners_mapped_marking if camera else trufolmesca.refine_corners_marking
+        first = call(*example, *camera, settings=settings)
+        again = call(first.marks.copy, *example[1:], *camera, settings=settings)
+        assert printed(first) == printed(again) and (first.marks.sheet == again.marks.sheet).all()
+        assert (first.marks.copy == again.marks.copy).all() and max(edge.probed for edge in first.edges) > 20
+
+
+@pytest.mark.parametrize("name", RANGES)
+def test_a_setting_out_of_its_range_is_25(example, name):
+    low, high = RANGES[name]
+    beyond = [np.nextafter(low, -1.0), np.nextafter(high, 1e9), low - 1, high + 1, np.nan, np.inf, -np.inf, 1e308, 2 ** 64, -10 ** 400]
+    wrong = beyond + ([low + 0.5, np.nextafter(high, 0.0), 2.0 ** 32 + low] if name in WHOLE else [])
+    for value in wrong:
+        refusal = refusal_of(trufolmesca.refine_corners_marking, *example, settings=replace(Settings(), **{name: value}))
+        assert refusal.number == Number.SETTINGS and refusal.marks is None, value
+        assert refusal_of(trufolmesca.refine_corners, *example, settings=replace(Settings(), **{name: value})).number == 25, value
+    for value in (low, high, -0.0 if low == 0 else low):
+        try:
+            trufolmesca.refine_corners(*example, settings=replace(Settings(), **{name: value}))
+        except Refused as refusal:
+            assert refusal.number in (Number.THIN, Number.LINE), value
+
+
+def test_settings_are_tested_behind_the_camera_and_before_all_computing(example):
+    picture, grid, rough = example
+    wrong = Settings(rounds=5)
+    blind = Camera(PLAIN, Intrinsics(0.0, 1.0, 0.0, 0.0))
+    assert refusal_of(trufolmesca.refine_corners_mapped, *example, blind, settings=wrong).number == Number.LENS
+    assert refusal_of(trufolmesca.refine_corners, picture, grid, NAN_CORNERS, settings=wrong).number == Number.CORNER
+    assert refusal_of(trufolmesca.refine_corners, picture, grid, np.zeros((4, 2)), settings=wrong).number == Number.SETTINGS
+
+
+def test_an_edge_point_under_settings():
+    picture = np.tile(np.array([0, 0, 0, 0, 100, 200, 200, 200, 200, 200], np.uint8), (9, 1))
+    ray = (4.3, 4.0), (-1.0, 0.0), 1.0, True
+    plain = trufolmesca.localize_edge_point(picture, *ray)
+    assert trufolmesca.localize_edge_point(picture, *ray, settings=Settings(contrast_floor=150)) == plain
+    assert trufolmesca.localize_edge_point_mapped(picture, CAMERA, *ray, settings=Settings()) == plain
+    assert refusal_of(trufolmesca.localize_edge_point, picture, *ray, settings=Settings(contrast_floor=201)).number == Number.PROFILE
+    assert refusal_of(trufolmesca.localize_edge_point, picture, *ray, settings=Settings(contrast_floor=0)).number == Number.SETTINGS
+    blind = Camera(PLAIN, Intrinsics(0.0, 1.0, 0.0, 0.0))
+    assert refusal_of(trufolmesca.localize_edge_point_mapped, picture, blind, *ray, settings=Settings(rounds=0)).number == Number.LENS
+
+
+# ---- scans
 
 
 def mean_around(scan: list[int], i: int, reach: int) -> int:
@@ -295,7 +388,11 @@ def test_corners_that_are_none_are_said(example, corners, error, said):
     (dict(inverted=None), TypeError, "inverted is True or False, not None"),
     (dict(inverted=1), TypeError, "inverted is True or False, not 1"),
     (dict(scale=2.0), ValueError, r"the scale: the shape is \(\), not 2"),
-    (dict(scale=("1", "1")), TypeError, "the scale: numbers are wanted")])
+    (dict(scale=("1", "1")), TypeError, "the scale: numbers are wanted"),
+    (dict(settings=[0.35] * 9), TypeError, "settings is of class Settings, not list"),
+    (dict(settings=Settings(rounds=None)), TypeError, "rounds: numbers are wanted, not object"),
+    (dict(settings=Settings(rounds=True)), TypeError, "rounds is a number, not True"),
+    (dict(settings=Settings(edge_margin_modules=[1, 2])), ValueError, r"edge_margin_modules: the shape is \(2,\), not one number")])
 def test_options_of_another_kind_are_said(example, options, error, said):
     with pytest.raises(error, match=said):
         trufolmesca.refine_corners(*example, **options)
@@ -319,6 +416,8 @@ def placed(camera: object = CAMERA, x: object = 1, y: object = 2) -> tuple[float
     (lambda p: trufolmesca.sample_bilinear(p, [1], 2), ValueError, r"x: the shape is \(1,\), not one number"),
     (lambda p: trufolmesca.localize_edge_point(p, (1, 2, 3), (1, 0), 1), ValueError, r"the place: the shape is \(3,\), not 2"),
     (lambda p: trufolmesca.localize_edge_point(p, (1, 2), (1, 0), 1, False, None), TypeError, "inward_differs is True or False"),
+    (lambda p: trufolmesca.localize_edge_point(p, (1, 2), (1, 0), 1, settings={"rounds": 2}), TypeError, "settings is of class Settings, not dict"),
+    (lambda p: trufolmesca.localize_edge_point(p, (1, 2), (1, 0), 1, settings=Settings(rounds="2")), TypeError, "rounds: numbers"),
     (lambda p: trufolmesca.map_point(np.zeros(9), 0, 0), ValueError, r"the map: the shape is \(9,\), not 3 by 3"),
     (lambda p: trufolmesca.fit_line_tls_weighted([1, 2, 3, 4], [1, 1]), ValueError, r"the points: the shape is \(4,\), not n by 2"),
     (lambda p: trufolmesca.fit_line_tls_weighted([[1, 2], [3, 4]], 1), ValueError, r"the weights: the shape is \(\), not n"),

@@ -23,7 +23,7 @@ RUST_TYPES = {
 PACKAGED = {
     ".cargo_vcs_info.json", "Cargo.lock", "Cargo.toml", "Cargo.toml.orig", "LICENSE", "NOTICE", "README.md", "build.rs",
     "src/card.rs", "src/ffi.rs", "src/geometry.rs", "src/lib.rs", "src/numbers.rs", "src/photograph.rs", "src/raw.rs", "src/refinement.rs",
-    "src/scan.rs", "src/wrong_uses.rs", "tests/calls.rs", "tests/drawn/mod.rs", "tests/threads.rs",
+    "src/scan.rs", "src/settings.rs", "src/wrong_uses.rs", "tests/calls.rs", "tests/drawn/mod.rs", "tests/threads.rs",
 }
 
 MANIFEST = """
@@ -39,7 +39,7 @@ PROGRAM = """
 use trufolmesca::{Map, Refusal};
 
 fn main() -> Result<(), Refusal> {
-    for refusal in (0..=25).filter_map(Refusal::from_number) {
+    for refusal in (0..=26).filter_map(Refusal::from_number) {
         println!("{} {refusal}", refusal.number());
     }
     Map::square_to_quad(&[[1.0, 2.0]; 4]).map(|_| ())
@@ -136,7 +136,7 @@ def declared_in_rust(source: str) -> dict[str, tuple[list[tuple[str, str]], str]
 def test_declarations_are_the_headers(root):
     in_rust = declared_in_rust((root / "bindings/rust/src/ffi.rs").read_text())
     assert in_rust == declared_in_c((root / "bindings/trufolmesca.h").read_text())
-    assert len(in_rust) == 22
+    assert len(in_rust) == 25
 
 
 def test_every_declared_call_is_made(root):
@@ -180,7 +180,7 @@ def describe(place: Path, version: str) -> None:
 def demand_words(program: Path, **environment: str) -> None:
     """Runs the outside program, which prints every number in words and ends with a refusal."""
     done = subprocess.run([program], env=os.environ | environment, capture_output=True, text=True)
-    assert done.stdout.splitlines() == [f"{number} {word_of(number)}" for number in range(1, 26)]
+    assert done.stdout.splitlines() == [f"{number} {word_of(number)}" for number in range(1, 27)]
     assert (done.returncode, done.stderr) == (1, f"Error: Refusal(8: {word_of(Number.QUAD)})\n")
 
 

@@ -8,11 +8,11 @@
     else:
         print(answer.corners, answer.marks.sheet.sum())
 
-The calls are those of trufolmesca.h, under their names there. One that gives no answer raises
-Refused, with the number and its word. Pixel (0, 0) has its centre at 0, 0. Corners go top left, top
-right, bottom right, bottom left.
+The calls are those of trufolmesca.h, under their names there; those whose names end in `_with` are
+made where `settings` are given. One that gives no answer raises Refused, with the number and its
+word. Pixel (0, 0) has its centre at 0, 0. Corners go top left, top right, bottom right, bottom left.
 
-Calling it: a call needs less than 10 KB of stack, takes no memory but for its answer, keeps no state
+Calling it: a call needs less than 20 KB of stack, takes no memory but for its answer, keeps no state
 and is reentrant, so threads may call it at once on arrays of their own, and run at once, since
 Python's lock is not held meanwhile. A bool is True or False. The photograph is never written to;
 sheet and copy are new arrays. The processor's rounding mode, flush-to-zero and denormals-are-zero
@@ -30,12 +30,13 @@ from .refinement import (Answer, Edge, Marked, refine_corners, refine_corners_ma
                          refine_corners_mapped_marking, refine_corners_marking)
 from .refusal import Marks, Refused
 from .scan import smooth_over, smooth_to
+from .settings import Settings
 
 __version__ = "0.1.0"
 
 __all__ = [
     "Answer", "Border", "Camera", "Edge", "EdgePoint", "Fisheye", "Intrinsics", "LARGEST_SIDE", "Lens", "LibraryMissing", "Line",
-    "Marked", "Marks", "Number", "OLDER_RESULT_CARD_SIZE", "RESULT_CARD_SIZE", "Refused", "WORDS", "archive_sha256",
+    "Marked", "Marks", "Number", "OLDER_RESULT_CARD_SIZE", "RESULT_CARD_SIZE", "Refused", "Settings", "WORDS", "archive_sha256",
     "fit_line_tls_weighted", "intersect_lines", "inverse", "library_path", "load_library", "localize_edge_point",
     "localize_edge_point_mapped", "map_point", "narrow_result_card", "quad_to_quad", "rectified_to_source", "refine_corners",
     "refine_corners_mapped", "refine_corners_mapped_marking", "refine_corners_marking", "run_card", "sample_bilinear", "scaled",

@@ -21,6 +21,7 @@ _LIST = [ctypes.c_void_p, ctypes.c_size_t]
 _PHOTOGRAPH = [*_LIST, _U32, _U32, _U32]
 _LABEL = [*_LIST, _U32, _F64, _F64, *_LIST, _BOOL]
 _CAMERA = [*_LIST, _U32]
+_SETTINGS = _LIST
 _PROFILE = [_F64, _F64, _F64, _F64, _F64, _BOOL, _BOOL]
 _ANSWER = [*_LIST, *_LIST]
 _MARKS = [*_LIST, *_LIST]
@@ -30,6 +31,8 @@ SIGNATURES: dict[str, tuple[Any, list[Any]]] = {
     "refine_corners_mapped": (_U32, [*_PHOTOGRAPH, *_LABEL, *_CAMERA, *_ANSWER]),
     "refine_corners_marking": (_U32, [*_PHOTOGRAPH, *_LABEL, *_ANSWER, *_MARKS]),
     "refine_corners_mapped_marking": (_U32, [*_PHOTOGRAPH, *_LABEL, *_CAMERA, *_ANSWER, *_MARKS]),
+    "refine_corners_with": (_U32, [*_PHOTOGRAPH, *_LABEL, *_CAMERA, *_SETTINGS, *_ANSWER]),
+    "refine_corners_marking_with": (_U32, [*_PHOTOGRAPH, *_LABEL, *_CAMERA, *_SETTINGS, *_ANSWER, *_MARKS]),
     "sample_bilinear": (_U32, [*_PHOTOGRAPH, _F64, _F64, _U32, _U8, *_LIST]),
     "rectified_to_source": (_U32, [*_CAMERA, _F64, _F64, *_LIST]),
     "square_to_quad": (_U32, [*_LIST, *_LIST]),
@@ -42,6 +45,7 @@ SIGNATURES: dict[str, tuple[Any, list[Any]]] = {
     "intersect_lines": (_U32, [*_LIST, *_LIST, *_LIST]),
     "localize_edge_point": (_U32, [*_PHOTOGRAPH, *_PROFILE, *_LIST]),
     "localize_edge_point_mapped": (_U32, [*_PHOTOGRAPH, *_PROFILE, *_CAMERA, *_LIST]),
+    "localize_edge_point_with": (_U32, [*_PHOTOGRAPH, *_PROFILE, *_CAMERA, *_SETTINGS, *_LIST]),
     "smooth_to": (_U32, [*_LIST, _U32, *_LIST]),
     "smooth_over": (_U32, [*_LIST, _U32]),
     "run_card": (_U32, [*_LIST, *_LIST]),
@@ -79,7 +83,7 @@ def archive_sha256() -> str | None:
 
 @lru_cache(maxsize=None)
 def load_library() -> ctypes.CDLL:
-    """The shared object, loaded once, with its 22 functions declared."""
+    """The shared object, loaded once, with its 25 functions declared."""
     path = library_path()
     try:
         if path != _FOR_THE_LOADER:

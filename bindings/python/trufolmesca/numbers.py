@@ -32,6 +32,7 @@ class Number(IntEnum):
     ROOM = 22
     FORM = 23
     COUNT = 24
+    SETTINGS = 25
 
 
 WORDS: dict[int, str] = {
@@ -61,6 +62,7 @@ WORDS: dict[int, str] = {
     Number.ROOM: "the smoothed scan does not fit where it is to be written",
     Number.FORM: "the result card is malformed, or of the other form",
     Number.COUNT: "a count is above 255, and the older form has no room for it",
+    Number.SETTINGS: "a setting is out of its range or not finite",
 }
 
 

@@ -10,6 +10,7 @@ from numpy.typing import ArrayLike, NDArray
 from .arguments import byte, flag, instance, number, numbers, photograph_arguments
 from .library import call
 from .refusal import demand
+from .settings import Settings, settings_argument
 
 
 @dataclass(frozen=True)
@@ -82,6 +83,11 @@ def camera_arguments(camera: Camera) -> tuple[NDArray[np.float64], int]:
     return numbers("the camera", values, len(values)), 2 if isinstance(camera.lens, Fisheye) else 1
 
 
+def seen_under(settings: Settings, seen: tuple[object, ...]) -> tuple[object, ...]:
+    """Camera and settings, as a call under settings takes them: where there is no camera its list is empty."""
+    return (*(seen or (np.zeros(0), 0)), settings_argument(settings))
+
+
 def rectified_to_source(camera: Camera, x: float, y: float) -> tuple[float, float]:
     """Where a place of the rectified picture lies in the photograph."""
     out = np.zeros(2)
@@ -104,19 +110,24 @@ def _profile(place: ArrayLike, normal: ArrayLike, step: float, inverted: bool, i
             flag("inverted", inverted), flag("inward_differs", inward_differs))
 
 
-def localize_edge_point(picture: ArrayLike, place: ArrayLike, normal: ArrayLike, step: float,
-                        inverted: bool = False, inward_differs: bool = False) -> EdgePoint:
-    """The point of an edge along its normal, near a place of the photograph."""
+def _localized(picture: ArrayLike, profile: tuple[object, ...], seen: tuple[object, ...], settings: Settings | None) -> EdgePoint:
+    """An edge point, by the call for what is given: a camera or none, settings or the defaults."""
+    name = "localize_edge_point_mapped" if seen else "localize_edge_point"
+    if settings is not None:
+        name, seen = "localize_edge_point_with", seen_under(settings, seen)
     out = np.zeros(3)
-    demand(call("localize_edge_point", *photograph_arguments(picture),
-                *_profile(place, normal, step, inverted, inward_differs), out))
+    demand(call(name, *photograph_arguments(picture), *profile, *seen, out))
     return EdgePoint(*out.tolist())
+
+
+def localize_edge_point(picture: ArrayLike, place: ArrayLike, normal: ArrayLike, step: float, inverted: bool = False,
+                        inward_differs: bool = False, *, settings: Settings | None = None) -> EdgePoint:
+    """The point of an edge along its normal, near a place of the photograph; without settings by the defaults."""
+    return _localized(picture, _profile(place, normal, step, inverted, inward_differs), (), settings)
 
 
 def localize_edge_point_mapped(picture: ArrayLike, camera: Camera, place: ArrayLike, normal: ArrayLike, step: float,
-                               inverted: bool = False, inward_differs: bool = False) -> EdgePoint:
+                               inverted: bool = False, inward_differs: bool = False, *,
+                               settings: Settings | None = None) -> EdgePoint:
     """The same through a camera: place, normal and answer are of the rectified picture."""
-    out = np.zeros(3)
-    demand(call("localize_edge_point_mapped", *photograph_arguments(picture),
-                *_profile(place, normal, step, inverted, inward_differs), *camera_arguments(camera), out))
-    return EdgePoint(*out.tolist())
+    return _localized(picture, _profile(place, normal, step, inverted, inward_differs), camera_arguments(camera), settings)

@@ -1,4 +1,4 @@
-"""The four refinement calls: a label's corners, on a photograph or through a camera, marked or not."""
+"""The refinement calls: a label's corners, on a photograph or through a camera, marked or not, under settings or the defaults."""
 from __future__ import annotations
 
 from dataclasses import dataclass
@@ -9,8 +9,9 @@ from numpy.typing import ArrayLike, NDArray
 
 from .arguments import flag, modules_and_dimension, numbers, photograph_arguments
 from .library import call
-from .photograph import Camera, camera_arguments
+from .photograph import Camera, camera_arguments, seen_under
 from .refusal import Marks, demand
+from .settings import Settings
 
 Flags = tuple[bool, bool, bool, bool]
 
@@ -52,6 +53,13 @@ def _label(modules: ArrayLike, corners: ArrayLike, scale: ArrayLike, inverted: b
             flag("inverted", inverted))
 
 
+def _asked(marking: str, seen: tuple[object, ...], settings: Settings | None) -> tuple[str, tuple[object, ...]]:
+    """The call for what is given, a camera or none, settings or the defaults, and what it takes behind the label."""
+    if settings is None:
+        return f"refine_corners{'_mapped' if seen else ''}{marking}", seen
+    return f"refine_corners{marking}_with", seen_under(settings, seen)
+
+
 def _refined(name: str, *arguments: object, marks: Marks | None = None) -> dict[str, Any]:
     """Calls a refinement, lends it sheet and copy if it marks, and gives the fields of its answer."""
     places, counts = np.zeros(8), np.zeros(20, np.uint32)
@@ -65,34 +73,39 @@ def _refined(name: str, *arguments: object, marks: Marks | None = None) -> dict[
     }
 
 
-def _marked(name: str, picture: ArrayLike, *arguments: object) -> Marked:
-    """Calls a refinement that marks, with a sheet and a copy that nobody else has."""
+def _plain(picture: ArrayLike, label: tuple[object, ...], seen: tuple[object, ...], settings: Settings | None) -> Answer:
+    """A refinement that does not mark."""
+    name, more = _asked("", seen, settings)
+    return Answer(**_refined(name, *photograph_arguments(picture), *label, *more))
+
+
+def _marked(picture: ArrayLike, label: tuple[object, ...], seen: tuple[object, ...], settings: Settings | None) -> Marked:
+    """A refinement that marks, with a sheet and a copy that nobody else has."""
+    name, more = _asked("_marking", seen, settings)
     pixels, width, height, stride = photograph_arguments(picture)
     marks = Marks(np.zeros((height, width), np.uint8), np.zeros((height, width), np.uint8))
-    return Marked(**_refined(name, pixels, width, height, stride, *arguments, marks=marks), marks=marks)
+    return Marked(**_refined(name, pixels, width, height, stride, *label, *more, marks=marks), marks=marks)
 
 
-def refine_corners(picture: ArrayLike, modules: ArrayLike, corners: ArrayLike, *,
-                   scale: ArrayLike = (1.0, 1.0), inverted: bool = False) -> Answer:
-    """A label's corners, refined on the photograph."""
-    return Answer(**_refined("refine_corners", *photograph_arguments(picture), *_label(modules, corners, scale, inverted)))
+def refine_corners(picture: ArrayLike, modules: ArrayLike, corners: ArrayLike, *, scale: ArrayLike = (1.0, 1.0),
+                   inverted: bool = False, settings: Settings | None = None) -> Answer:
+    """A label's corners, refined on the photograph; without settings by the defaults."""
+    return _plain(picture, _label(modules, corners, scale, inverted), (), settings)
 
 
-def refine_corners_mapped(picture: ArrayLike, modules: ArrayLike, corners: ArrayLike, camera: Camera, *,
-                          scale: ArrayLike = (1.0, 1.0), inverted: bool = False) -> Answer:
+def refine_corners_mapped(picture: ArrayLike, modules: ArrayLike, corners: ArrayLike, camera: Camera, *, scale: ArrayLike = (1.0, 1.0),
+                          inverted: bool = False, settings: Settings | None = None) -> Answer:
     """The same through a camera: corners and answer are of the rectified picture."""
-    return Answer(**_refined("refine_corners_mapped", *photograph_arguments(picture), *_label(modules, corners, scale, inverted),
-                             *camera_arguments(camera)))
+    return _plain(picture, _label(modules, corners, scale, inverted), camera_arguments(camera), settings)
 
 
-def refine_corners_marking(picture: ArrayLike, modules: ArrayLike, corners: ArrayLike, *,
-                           scale: ArrayLike = (1.0, 1.0), inverted: bool = False) -> Marked:
-    """A label's corners, with the sheet of what was read and the blanked copy."""
-    return _marked("refine_corners_marking", picture, *_label(modules, corners, scale, inverted))
+def refine_corners_marking(picture: ArrayLike, modules: ArrayLike, corners: ArrayLike, *, scale: ArrayLike = (1.0, 1.0),
+                           inverted: bool = False, settings: Settings | None = None) -> Marked:
+    """A label's corners, with the sheet of what was read and the blanked copy; without settings by the defaults."""
+    return _marked(picture, _label(modules, corners, scale, inverted), (), settings)
 
 
 def refine_corners_mapped_marking(picture: ArrayLike, modules: ArrayLike, corners: ArrayLike, camera: Camera, *,
-                                  scale: ArrayLike = (1.0, 1.0), inverted: bool = False) -> Marked:
+                                  scale: ArrayLike = (1.0, 1.0), inverted: bool = False, settings: Settings | None = None) -> Marked:
     """The same through a camera; sheet and copy are of the photograph."""
-    return _marked("refine_corners_mapped_marking", picture, *_label(modules, corners, scale, inverted),
-                   *camera_arguments(camera))
+    return _marked(picture, _label(modules, corners, scale, inverted), camera_arguments(camera), settings)

@@ -21,7 +21,7 @@ class Refused(ValueError):
     """A call that gave no answer: `number` and `word` say why.
 
     `marks` are the sheet and the copy of a marking call that had begun to read, which is any refused
-    behind 7; otherwise None.
+    behind 7, as 8, 9, 10 and 11 are; otherwise None.
     """
 
     def __init__(self, number: int, marks: Marks | None = None):
@@ -38,4 +38,4 @@ class Refused(ValueError):
 def demand(number: int, marks: Marks | None = None) -> None:
     """Raises Refused unless the number is that of an answer, with the marks if the call wrote them."""
     if number != Number.ANSWER:
-        raise Refused(number, marks if number > Number.SHEET else None)
+        raise Refused(number, marks if number > Number.SHEET and number != Number.SETTINGS else None)

@@ -43,6 +43,25 @@ unsafe extern "C" {
         sheet: *mut u8, sheet_len: usize, copy: *mut u8, copy_len: usize,
     ) -> u32;
 
+    /// The same under settings, through a camera or without one where its list is empty.
+    pub fn trufolmesca_refine_corners_with(
+        bytes: *const u8, bytes_len: usize, width: u32, height: u32, stride: u32,
+        modules: *const u8, modules_len: usize, dim: u32, sx: f64, sy: f64,
+        corners: *const f64, corners_len: usize, inverted: bool,
+        camera: *const f64, camera_len: usize, lens: u32, settings: *const f64, settings_len: usize,
+        places: *mut f64, places_len: usize, counts: *mut u32, counts_len: usize,
+    ) -> u32;
+
+    /// The same, with the sheet of what was read and the blanked copy.
+    pub fn trufolmesca_refine_corners_marking_with(
+        bytes: *const u8, bytes_len: usize, width: u32, height: u32, stride: u32,
+        modules: *const u8, modules_len: usize, dim: u32, sx: f64, sy: f64,
+        corners: *const f64, corners_len: usize, inverted: bool,
+        camera: *const f64, camera_len: usize, lens: u32, settings: *const f64, settings_len: usize,
+        places: *mut f64, places_len: usize, counts: *mut u32, counts_len: usize,
+        sheet: *mut u8, sheet_len: usize, copy: *mut u8, copy_len: usize,
+    ) -> u32;
+
     /// The value of a photograph at a place.
     pub fn trufolmesca_sample_bilinear(
         bytes: *const u8, bytes_len: usize, width: u32, height: u32, stride: u32,
@@ -103,6 +122,14 @@ unsafe extern "C" {
         bytes: *const u8, bytes_len: usize, width: u32, height: u32, stride: u32,
         coarse_x: f64, coarse_y: f64, normal_x: f64, normal_y: f64, step: f64, inverted: bool, inward_differs: bool,
         camera: *const f64, camera_len: usize, lens: u32,
+        point: *mut f64, point_len: usize,
+    ) -> u32;
+
+    /// The same under settings, through a camera or without one where its list is empty.
+    pub fn trufolmesca_localize_edge_point_with(
+        bytes: *const u8, bytes_len: usize, width: u32, height: u32, stride: u32,
+        coarse_x: f64, coarse_y: f64, normal_x: f64, normal_y: f64, step: f64, inverted: bool, inward_differs: bool,
+        camera: *const f64, camera_len: usize, lens: u32, settings: *const f64, settings_len: usize,
         point: *mut f64, point_len: usize,
     ) -> u32;
 

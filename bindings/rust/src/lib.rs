@@ -10,6 +10,7 @@ mod photograph;
 pub mod raw;
 mod refinement;
 mod scan;
+mod settings;
 #[cfg(doctest)]
 mod wrong_uses;
 
@@ -17,8 +18,9 @@ pub use card::{OLDER_RESULT_CARD_SIZE, RESULT_CARD_SIZE, narrow_result_card, run
 pub use geometry::{Line, Map, Place, Quad, fit_line_tls_weighted, intersect_lines, sqrt};
 pub use numbers::Refusal;
 pub use photograph::{
-    Aim, Border, Camera, EdgePoint, Intrinsics, Lens, Photograph, localize_edge_point, rectified_to_source,
-    sample_bilinear,
+    Aim, Border, Camera, EdgePoint, Intrinsics, Lens, Photograph, localize_edge_point,
+    localize_edge_point_with, rectified_to_source, sample_bilinear,
 };
 pub use refinement::{Answer, Edge, Grid, Request, refine_corners, refine_corners_marking};
 pub use scan::{smooth_over, smooth_to};
+pub use settings::Settings;

@@ -65,6 +65,7 @@ refusals! {
     22 ROOM "the smoothed scan does not fit where it is to be written"
     23 FORM "the result card is malformed, or of the other form"
     24 COUNT "a count is above 255, and the older form has no room for it"
+    25 SETTINGS "a setting is out of its range or not finite"
 }
 
 impl Refusal {
@@ -85,18 +86,19 @@ impl Refusal {
 
     /// Whether a marking call that is refused so has written sheet and copy.
     ///
-    /// A refusal by 1 to 7 comes before any pixel is read, and leaves both as they were. Any other
-    /// comes behind that: the first width × height bytes of both are written, as by an answer.
+    /// A refusal by 1 to 7 or by 25 comes before any pixel is read, and leaves both as they were. Any
+    /// other comes behind that: the first width × height bytes of both are written, as by an answer.
     ///
     /// ```
     /// use trufolmesca::Refusal;
     ///
     /// assert!(!Refusal::SHEET.marked());
+    /// assert!(!Refusal::SETTINGS.marked());
     /// assert!(Refusal::QUAD.marked());
     /// ```
     #[must_use]
     pub const fn marked(self) -> bool {
-        self.0 > Self::SHEET.0
+        self.0 > Self::SHEET.0 && self.0 != Self::SETTINGS.0
     }
 }
 

@@ -2,7 +2,7 @@
 
 use std::fmt;
 
-use crate::{Place, Refusal, raw};
+use crate::{Place, Refusal, Settings, raw};
 
 /// A grey photograph that is lent to a call: a byte a pixel, by rows of `stride` bytes.
 #[derive(Clone, Copy)]
@@ -207,5 +207,40 @@ pub fn localize_edge_point(
     aim: &Aim,
 ) -> Result<EdgePoint, Refusal> {
     let [x, y, weight] = raw::localize_edge_point(photograph, camera, aim).answer()?;
+    Ok(EdgePoint { place: [x, y], weight })
+}
+
+/// The same under settings, of which all are tested and the contrast floor alone counts.
+///
+/// It is refused as [`localize_edge_point`] is, and by [`Refusal::SETTINGS`] before
+/// [`PROFILE`](Refusal::PROFILE).
+///
+/// ```
+/// use trufolmesca::{Aim, Photograph, Refusal, Settings, localize_edge_point, localize_edge_point_with};
+///
+/// // From 100 to 109 grey levels, with a soft edge between columns 9 and 10.
+/// let row = [100, 100, 100, 100, 100, 100, 100, 100, 101, 103, 106, 108, 109, 109, 109, 109, 109, 109];
+/// let bytes = [row; 5].concat();
+/// let photograph = Photograph::new(&bytes, 18, 5);
+/// let aim = Aim { coarse: [9.0, 2.0], normal: [1.0, 0.0], step: 1.5, inverted: false, inward_differs: false };
+/// assert_eq!(localize_edge_point(&photograph, None, &aim), Err(Refusal::PROFILE));
+///
+/// let mut settings = Settings { contrast_floor: 6, ..Settings::default() };
+/// let point = localize_edge_point_with(&photograph, None, &aim, &settings)?;
+/// assert!((point.place[0] - 9.5).abs() < 0.1);
+///
+/// settings.contrast_floor = 0;
+/// assert_eq!(localize_edge_point_with(&photograph, None, &aim, &settings), Err(Refusal::SETTINGS));
+/// # Ok::<(), Refusal>(())
+/// ```
+#[doc(alias = "trufolmesca_localize_edge_point_with")]
+pub fn localize_edge_point_with(
+    photograph: &Photograph,
+    camera: Option<&Camera>,
+    aim: &Aim,
+    settings: &Settings,
+) -> Result<EdgePoint, Refusal> {
+    let list = raw::settings_list(settings);
+    let [x, y, weight] = raw::localize_edge_point_with(photograph, camera, aim, &list).answer()?;
     Ok(EdgePoint { place: [x, y], weight })
 }

@@ -10,7 +10,8 @@
 #![allow(unsafe_code)]
 
 use crate::{
-    Aim, Answer, Border, Camera, Edge, Lens, Line, Map, Photograph, Place, Quad, Refusal, Request, ffi,
+    Aim, Answer, Border, Camera, Edge, Lens, Line, Map, Photograph, Place, Quad, Refusal, Request, Settings,
+    ffi,
 };
 
 /// What a call returned and what it wrote.
@@ -114,14 +115,40 @@ impl CameraList {
     }
 }
 
+/// The camera's list and the kind of its lens, as the calls under settings take them: the list is empty
+/// where there is no camera.
+fn any_camera(camera: Option<&CameraList>) -> (&[f64], u32) {
+    camera.map_or((&[], 0), |camera| (&camera.numbers, camera.lens))
+}
+
+/// Settings as C takes them: the list that the calls under settings are lent.
+#[must_use]
+pub fn settings_list(settings: &Settings) -> [f64; 9] {
+    let whole = f64::from;
+    [
+        settings.probe_fraction_first,
+        settings.probe_fraction_second,
+        settings.edge_margin_modules,
+        whole(settings.max_points_per_edge),
+        whole(settings.min_edge_points),
+        whole(settings.contrast_floor),
+        settings.outlier_floor_modules,
+        settings.outlier_median_multiplier,
+        whole(settings.rounds),
+    ]
+}
+
 /// A line as C takes it.
 fn line_list(line: &Line) -> [f64; 4] {
     let Line { centroid: [x, y], direction: [dx, dy] } = *line;
     [x, y, dx, dy]
 }
 
-/// A label's corners, refined on the photograph or through the request's camera.
+/// A label's corners, refined on the photograph or through the request's camera, under its settings.
 pub fn refine_corners(request: &Request) -> Written<Answer> {
+    if let Some(settings) = &request.settings {
+        return refine_corners_with(request, &settings_list(settings));
+    }
     refinement(|places, counts| match request.camera.as_ref().map(CameraList::of) {
         // SAFETY: lists and buffers by `call!`; places and counts are this call's alone.
         None => unsafe { call!(trufolmesca_refine_corners; request request, buffer places, buffer counts) },
@@ -135,9 +162,12 @@ pub fn refine_corners(request: &Request) -> Written<Answer> {
 
 /// The same, with the sheet of what was read and the blanked copy.
 ///
-/// Refused by 1 to 7 it leaves sheet and copy as they were; otherwise, refused or not, it writes the
-/// first width × height bytes of both.
+/// Refused by 1 to 7 or 25 it leaves sheet and copy as they were; otherwise, refused or not, it writes
+/// the first width × height bytes of both.
 pub fn refine_corners_marking(request: &Request, sheet: &mut [u8], copy: &mut [u8]) -> Written<Answer> {
+    if let Some(settings) = &request.settings {
+        return refine_corners_marking_with(request, &settings_list(settings), sheet, copy);
+    }
     refinement(|places, counts| match request.camera.as_ref().map(CameraList::of) {
         // SAFETY: lists and buffers by `call!`; places and counts are this call's alone, and so are
         // sheet and copy, which are borrowed as `&mut`.
@@ -150,6 +180,35 @@ pub fn refine_corners_marking(request: &Request, sheet: &mut [u8], copy: &mut [u
             call!(trufolmesca_refine_corners_mapped_marking; request request, camera camera,
                 buffer places, buffer counts, buffer sheet, buffer copy)
         },
+    })
+}
+
+/// A label's corners under settings that are given as C takes them, in the place of the request's: a
+/// list of nine numbers, of which any may be wrong, or of another length.
+pub fn refine_corners_with(request: &Request, settings: &[f64]) -> Written<Answer> {
+    let camera = request.camera.as_ref().map(CameraList::of);
+    let (camera, lens) = any_camera(camera.as_ref());
+    // SAFETY: lists and buffers by `call!`; places and counts are this call's alone.
+    refinement(|places, counts| unsafe {
+        call!(trufolmesca_refine_corners_with; request request, list camera, value lens, list settings,
+            buffer places, buffer counts)
+    })
+}
+
+/// The same, with the sheet of what was read and the blanked copy.
+pub fn refine_corners_marking_with(
+    request: &Request,
+    settings: &[f64],
+    sheet: &mut [u8],
+    copy: &mut [u8],
+) -> Written<Answer> {
+    let camera = request.camera.as_ref().map(CameraList::of);
+    let (camera, lens) = any_camera(camera.as_ref());
+    // SAFETY: lists and buffers by `call!`; places and counts are this call's alone, and so are sheet
+    // and copy, which are borrowed as `&mut`.
+    refinement(|places, counts| unsafe {
+        call!(trufolmesca_refine_corners_marking_with; request request, list camera, value lens, list settings,
+            buffer places, buffer counts, buffer sheet, buffer copy)
     })
 }
 
@@ -181,6 +240,24 @@ pub fn localize_edge_point(photograph: &Photograph, camera: Option<&Camera>, aim
             call!(trufolmesca_localize_edge_point_mapped; photograph photograph, value x, value y, value nx,
                 value ny, value step, value inverted, value inward_differs, camera camera, buffer out)
         },
+    })
+}
+
+/// The same under settings that are given as C takes them: a list of nine numbers, of which any may be
+/// wrong, or of another length.
+pub fn localize_edge_point_with(
+    photograph: &Photograph,
+    camera: Option<&Camera>,
+    aim: &Aim,
+    settings: &[f64],
+) -> Written<[f64; 3]> {
+    let Aim { coarse: [x, y], normal: [nx, ny], step, inverted, inward_differs } = *aim;
+    let camera = camera.map(CameraList::of);
+    let (camera, lens) = any_camera(camera.as_ref());
+    // SAFETY: lists and buffers by `call!`; the buffer is this call's alone.
+    written(|out| unsafe {
+        call!(trufolmesca_localize_edge_point_with; photograph photograph, value x, value y, value nx, value ny,
+            value step, value inverted, value inward_differs, list camera, value lens, list settings, buffer out)
     })
 }
 

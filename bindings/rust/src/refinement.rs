@@ -2,7 +2,7 @@
 
 use std::fmt;
 
-use crate::{Camera, Photograph, Place, Quad, Refusal, raw};
+use crate::{Camera, Photograph, Place, Quad, Refusal, Settings, raw};
 
 /// A label's modules as they were read, lent to a call: a byte a module by rows, 1 dark and 0 light.
 #[derive(Clone, Copy)]
@@ -48,13 +48,16 @@ pub struct Request<'a> {
     pub inverted: bool,
     /// The camera through which the photograph is seen, if any.
     pub camera: Option<Camera>,
+    /// The numbers that the refinement goes by, if others than the default ones.
+    pub settings: Option<Settings>,
 }
 
 impl<'a> Request<'a> {
-    /// A label dark on light, its rough corners in the photograph's own pixels, without a camera.
+    /// A label dark on light, its rough corners in the photograph's own pixels, without a camera, under
+    /// the default settings.
     #[must_use]
     pub const fn new(photograph: Photograph<'a>, grid: Grid<'a>, corners: Quad) -> Self {
-        Self { photograph, grid, corners, scale: [1.0, 1.0], inverted: false, camera: None }
+        Self { photograph, grid, corners, scale: [1.0, 1.0], inverted: false, camera: None, settings: None }
     }
 
     /// The same at another scale.
@@ -73,6 +76,12 @@ impl<'a> Request<'a> {
     #[must_use]
     pub const fn with_camera(self, camera: Camera) -> Self {
         Self { camera: Some(camera), ..self }
+    }
+
+    /// The same under settings.
+    #[must_use]
+    pub const fn with_settings(self, settings: Settings) -> Self {
+        Self { settings: Some(settings), ..self }
     }
 }
 
@@ -101,9 +110,11 @@ pub struct Answer {
     pub edges: [Edge; 4],
 }
 
-/// A label's corners, refined on the photograph or through the request's camera.
+/// A label's corners, refined on the photograph or through the request's camera, under the request's
+/// settings.
 ///
-/// It is refused by a number from 1 to 6 where the request is wrong, by [`Refusal::QUAD`] or
+/// It is refused by a number from 1 to 6 where the request is wrong, by [`Refusal::SETTINGS`] where
+/// its settings are, by [`Refusal::QUAD`] or
 /// [`THIN`](Refusal::THIN), or by the number of an edge, [`LINE`](Refusal::LINE) or
 /// [`OVERFLOW`](Refusal::OVERFLOW).
 ///
@@ -121,6 +132,7 @@ pub struct Answer {
 /// ```
 #[doc(alias = "trufolmesca_refine_corners")]
 #[doc(alias = "trufolmesca_refine_corners_mapped")]
+#[doc(alias = "trufolmesca_refine_corners_with")]
 pub fn refine_corners(request: &Request) -> Result<Answer, Refusal> {
     raw::refine_corners(request).answer()
 }
@@ -129,7 +141,8 @@ pub fn refine_corners(request: &Request) -> Result<Answer, Refusal> {
 ///
 /// The sheet has a 1 at each pixel of the photograph that was read and 0 elsewhere; the copy is the
 /// photograph with 0 at each pixel that was not read. A sheet or a copy of fewer than width × height
-/// bytes is refused by [`Refusal::SHEET`], behind the numbers 1 to 6; bytes behind those stay.
+/// bytes is refused by [`Refusal::SHEET`], behind the numbers 1 to 6 and [`Refusal::SETTINGS`]; bytes
+/// behind those stay.
 ///
 /// An answer has written both. So has a refusal that came behind the reading, which
 /// [`Refusal::marked`] tells; any other left both as they were.
@@ -156,6 +169,7 @@ pub fn refine_corners(request: &Request) -> Result<Answer, Refusal> {
 /// ```
 #[doc(alias = "trufolmesca_refine_corners_marking")]
 #[doc(alias = "trufolmesca_refine_corners_mapped_marking")]
+#[doc(alias = "trufolmesca_refine_corners_marking_with")]
 pub fn refine_corners_marking(
     request: &Request,
     sheet: &mut [u8],

@@ -126,6 +126,101 @@ fn a_wrong_request_is_refused_by_its_number() {
     assert_eq!(refused(|r| r.inverted = true), Refusal::THIN);
 }
 
+/// Settings at the ends of their ranges, the label's contrast among them.
+const WIDEST: Settings = Settings {
+    probe_fraction_first: 1.0,
+    probe_fraction_second: -0.0,
+    edge_margin_modules: 1.0,
+    max_points_per_edge: 354,
+    min_edge_points: 2,
+    contrast_floor: 1,
+    outlier_floor_modules: 100.0,
+    outlier_median_multiplier: 0.0,
+    rounds: 4,
+};
+
+#[test]
+fn default_settings_are_those_of_a_request_without() {
+    let bytes = picture();
+    let camera = Camera { source: PINHOLE, rectified: PINHOLE, lens: None };
+    for request in [request(&bytes), request(&bytes).with_camera(camera), request(&[])] {
+        let under = request.with_settings(Settings::default());
+        assert_eq!(refine_corners(&under), refine_corners(&request));
+        assert_eq!(marked(&under), marked(&request));
+    }
+}
+
+#[test]
+fn settings_change_what_is_probed() {
+    let bytes = picture();
+    let request = request(&bytes);
+    let answer = refine_corners(&request.with_settings(WIDEST)).unwrap();
+    demand_drawn(&answer.corners);
+    // Two at each of the 20 places between two modules.
+    assert!(answer.edges.iter().all(|e| (e.probed, e.dropped) == (40, 0)));
+    let few = Settings { max_points_per_edge: 3, min_edge_points: 3, ..WIDEST };
+    let answer = refine_corners(&request.with_settings(few)).unwrap();
+    assert!(answer.edges.iter().all(|e| (e.probed, e.fit) == (3, 3)));
+    let (result, sheet, copy) = marked(&request.with_settings(few));
+    assert_eq!(result, Ok(answer));
+    // In each round three probes on four edges, of at most 21 samples of four pixels.
+    assert!(sheet.iter().filter(|mark| **mark == 1).count() <= 4 * 3 * 4 * 21 * 4);
+    assert!(copy.iter().zip(&sheet).zip(&bytes).all(|((kept, mark), byte)| *kept == mark * byte));
+}
+
+#[test]
+fn settings_out_of_range_are_refused_and_nothing_is_written() {
+    let bytes = picture();
+    let good = request(&bytes);
+    let demand_refused = |change: fn(&mut Settings)| {
+        let mut settings = Settings::default();
+        change(&mut settings);
+        let (result, sheet, copy) = marked(&good.with_settings(settings));
+        assert_eq!(result, Err(Refusal::SETTINGS), "{settings:?}");
+        assert!(sheet.iter().chain(&copy).all(|byte| *byte == 7));
+        assert_eq!(refine_corners(&good.with_settings(settings)), Err(Refusal::SETTINGS));
+    };
+    demand_refused(|s| s.probe_fraction_first = -f64::MIN_POSITIVE);
+    demand_refused(|s| s.probe_fraction_second = 1.0 + f64::EPSILON);
+    demand_refused(|s| s.edge_margin_modules = f64::NAN);
+    demand_refused(|s| s.max_points_per_edge = 355);
+    demand_refused(|s| s.min_edge_points = 1);
+    demand_refused(|s| s.contrast_floor = 256);
+    demand_refused(|s| s.outlier_floor_modules = f64::INFINITY);
+    demand_refused(|s| s.outlier_median_multiplier = -1.0);
+    demand_refused(|s| s.rounds = u32::MAX);
+}
+
+#[test]
+fn settings_are_tested_between_the_camera_and_the_sheet() {
+    let bytes = picture();
+    let wrong = request(&bytes).with_settings(Settings { rounds: 0, ..Settings::default() });
+    let no_camera = Camera { source: PINHOLE, rectified: Intrinsics { fy: 0.0, ..PINHOLE }, lens: None };
+    assert_eq!(refine_corners(&wrong.with_camera(no_camera)), Err(Refusal::LENS));
+    let (mut sheet, mut copy) = ([7; 4], [7; 4]);
+    assert_eq!(refine_corners_marking(&wrong, &mut sheet, &mut copy), Err(Refusal::SETTINGS));
+    let right = wrong.with_settings(WIDEST);
+    assert_eq!(refine_corners_marking(&right, &mut sheet, &mut copy), Err(Refusal::SHEET));
+}
+
+#[test]
+fn a_list_of_settings_has_nine_numbers_that_are_whole_where_they_must_be() {
+    let bytes = picture();
+    let request = request(&bytes);
+    let list = raw::settings_list(&Settings::default());
+    let number = |list: &[f64]| raw::refine_corners_with(&request, list).number;
+    assert_eq!(number(&list), 0);
+    assert_eq!(number(&[&list[..], &[f64::NAN]].concat()), 0);
+    for n in 0..9 {
+        assert_eq!(number(&list[..n]), Refusal::SETTINGS.number());
+    }
+    for at in [3, 4, 5, 8] {
+        let mut wrong = list;
+        wrong[at] += 0.5;
+        assert_eq!(number(&wrong), Refusal::SETTINGS.number());
+    }
+}
+
 #[test]
 fn a_wrong_line_is_refused_by_its_number() {
     let fit = |xs: &[f64], ys: &[f64], weights: &[f64]| fit_line_tls_weighted(xs, ys, weights).unwrap_err();
@@ -160,6 +255,26 @@ fn an_edge_point_is_found_through_a_camera_too() {
     let rectified = Aim { coarse: [10.0, 26.0], step: 0.75, ..aim };
     let point = localize_edge_point(&photograph, Some(&camera), &rectified).unwrap();
     assert!((point.place[0] - 10.15).abs() < 0.05);
+}
+
+#[test]
+fn an_edge_point_is_found_under_settings_too() {
+    let bytes = picture();
+    let photograph = request(&bytes).photograph;
+    let aim =
+        Aim { coarse: [20.0, 52.0], normal: [-1.0, 0.0], step: 1.5, inverted: false, inward_differs: false };
+    let same = Camera { source: PINHOLE, rectified: PINHOLE, lens: None };
+    for camera in [None, Some(&same)] {
+        let under = |settings: Settings| localize_edge_point_with(&photograph, camera, &aim, &settings);
+        assert_eq!(under(Settings::default()), localize_edge_point(&photograph, camera, &aim));
+        assert_eq!(under(WIDEST), localize_edge_point(&photograph, camera, &aim));
+        assert_eq!(under(Settings { contrast_floor: 255, ..WIDEST }), Err(Refusal::PROFILE));
+        assert_eq!(under(Settings { contrast_floor: 256, ..WIDEST }), Err(Refusal::SETTINGS));
+    }
+    let wrong = Camera { source: Intrinsics { fx: f64::NAN, ..PINHOLE }, ..same };
+    let refusal =
+        localize_edge_point_with(&photograph, Some(&wrong), &aim, &Settings { rounds: 9, ..WIDEST });
+    assert_eq!(refusal, Err(Refusal::LENS));
 }
 
 /// The mean, rounded down, of the heights up to half a window from i.

@@ -12,7 +12,7 @@ fn of_all_threads<T: Send + Sync>() {}
 #[test]
 fn lists_and_answers_go_to_all_threads() {
     of_all_threads::<Request<'_>>();
-    of_all_threads::<(Photograph<'_>, Grid<'_>, Camera, Border, Aim)>();
+    of_all_threads::<(Photograph<'_>, Grid<'_>, Camera, Settings, Border, Aim)>();
     of_all_threads::<(EdgePoint, Line, Map)>();
     of_all_threads::<Result<Answer, Refusal>>();
     of_all_threads::<raw::Written<Answer>>();

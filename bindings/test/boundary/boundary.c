@@ -3,7 +3,7 @@
        boundary calls SEED JOBS     JOBS jobs, each made at both ends; prints how often each call returned each number
        boundary again SEED INDEX    one of these jobs by itself
        boundary threads SEED JOBS   the jobs in four threads at once, which must give what one gives
-       boundary stack SEED JOBS     the jobs with 10 KB of stack; prints what each call needs
+       boundary stack SEED JOBS     the jobs with 20 KB of stack; prints what each call needs
 
    A fault or a wrong answer is printed with the call, and how to make it again. The status is 0, 1 where something is wrong, 2 where it
    could not be run, and 3 after a fault. */

@@ -17,7 +17,8 @@ enum {
     NEWER = 105, OLDER = 93,   /* bytes of a result card in either form */
     CANARY = 0xA7,             /* each byte of a buffer before a call */
     RIM = 64,                  /* bytes watched beside a list, on the side that has no guard */
-    NUMBERS = 25
+    SETTINGS = 9,              /* numbers of a list of settings */
+    NUMBERS = 26
 };
 
 /* ---- the calls */
@@ -25,11 +26,11 @@ enum {
 enum call {
     REFINE, REFINE_MAPPED, REFINE_MARKING, REFINE_MAPPED_MARKING, SAMPLE, TO_SOURCE, SQUARE_TO_QUAD, QUAD_TO_QUAD, MAP, SCALED,
     INVERSE, THEN, FIT_LINE, INTERSECT, LOCALIZE, LOCALIZE_MAPPED, SQRT, SMOOTH_TO, SMOOTH_OVER, RUN_CARD,
-    WIDEN, NARROW, CALLS
+    WIDEN, NARROW, REFINE_WITH, REFINE_MARKING_WITH, LOCALIZE_WITH, CALLS
 };
 
-/* The lists and buffers that a call can be lent. FIRST is its corners, map, xs or line, SECOND the quad, map, ys or line beside it,
-   THIRD the weights or the camera. HEIGHTS is where a scan is smoothed to, and holds the scan before the call over itself. CARD is
+/* The lists and buffers that a call can be lent. FIRST is its corners, map, xs or line, SECOND the quad, map, ys or line beside it, or
+   its settings, THIRD the weights or the camera. HEIGHTS is where a scan is smoothed to, and holds the scan before the call over itself. CARD is
    a card that is read, and RESULT where a result card is written. */
 enum list { BYTES, MODULES, FIRST, SECOND, THIRD, SCAN, CARD, VALUES, COUNTS, SHEET, COPY, HEIGHTS, RESULT, LISTS };
 
@@ -65,6 +66,16 @@ struct job {
 
 static inline bool lends(const struct job *job, enum list list) { return kinds[job->call].lists >> list & 1; }
 static inline bool is_buffer(enum list list) { return list >= VALUES; }
+static inline bool takes_settings(const struct job *job) { return job->call >= REFINE_WITH; }
+
+/* The settings: their defaults, and which numbers each may be. */
+struct range {
+    double least, most;
+    bool whole;
+};
+
+extern const double defaults[SETTINGS];
+extern const struct range ranges[SETTINGS];
 
 /* ---- where lists lie (arena.c) */
 
@@ -91,6 +102,15 @@ void lay(struct desk *desk, const struct job *job);
 
 uint32_t make_call(const struct job *job, const struct desk *desk);
 uint32_t refined(const struct job *job, double places[8], uint32_t counts[20]);
+
+/* Buffers for a call beside a job's own. */
+struct written {
+    double values[MOST_FLOATS];
+    uint32_t counts[MOST_COUNTS];
+    uint8_t sheet[MOST_BYTES], copy[MOST_BYTES];
+};
+
+uint32_t call_without_settings(const struct job *job, const struct desk *desk, struct written *to);
 
 /* What is wrong after a call, or null. */
 const char *wrong_after(const struct job *job, const struct desk *desk, uint32_t number);

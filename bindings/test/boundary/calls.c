@@ -1,4 +1,4 @@
-/* The 22 calls of trufolmesca.h: what each is lent and can return, and how a job is put to it. */
+/* The 25 calls of trufolmesca.h: what each is lent and can return, and how a job is put to it. */
 #include "boundary.h"
 
 #include <string.h>
@@ -10,6 +10,7 @@
 #define LABEL_LISTS (BIT(BYTES) | BIT(MODULES) | BIT(FIRST) | BIT(VALUES) | BIT(COUNTS))
 #define MARK_LISTS (BIT(SHEET) | BIT(COPY))
 #define CAMERA_LIST BIT(THIRD)
+#define SETTINGS_LIST BIT(SECOND)
 
 #define VIEW_NUMBERS (BIT(0) | BIT(1) | BIT(2))
 #define LABEL_NUMBERS (VIEW_NUMBERS | BIT(3) | BIT(4) | BIT(5) | BIT(8) | BIT(9) | BIT(10) | BIT(11))
@@ -40,6 +41,12 @@ const struct kind kinds[CALLS] = {
     [RUN_CARD] = {"run_card", BIT(CARD) | BIT(RESULT), LABEL_NUMBERS | BIT(6) | BIT(12), 0, {0, 0, 0}},
     [WIDEN] = {"widen_result_card", BIT(CARD) | BIT(RESULT), BIT(0) | BIT(12) | BIT(23), 0, {0, 0, 0}},
     [NARROW] = {"narrow_result_card", BIT(CARD) | BIT(RESULT), BIT(0) | BIT(12) | BIT(23) | BIT(24), 0, {0, 0, 0}},
+    [REFINE_WITH] = {"refine_corners_with", LABEL_LISTS | CAMERA_LIST | SETTINGS_LIST, LABEL_NUMBERS | BIT(6) | BIT(25), 8,
+                     {8, SETTINGS, 13}},
+    [REFINE_MARKING_WITH] = {"refine_corners_marking_with", LABEL_LISTS | CAMERA_LIST | SETTINGS_LIST | MARK_LISTS,
+                             LABEL_NUMBERS | BIT(6) | BIT(7) | BIT(25), 8, {8, SETTINGS, 13}},
+    [LOCALIZE_WITH] = {"localize_edge_point_with", PHOTOGRAPH_LISTS | CAMERA_LIST | SETTINGS_LIST | BIT(VALUES),
+                       VIEW_NUMBERS | BIT(6) | BIT(19) | BIT(25), 3, {0, SETTINGS, 13}},
 };
 
 /* A refinement can return 11, where a line's arithmetic overflows, but no input is known that gets there: the entry checks bound the
@@ -57,6 +64,7 @@ const size_t element_sizes[LISTS] = {1, 1, sizeof(double), sizeof(double), sizeo
 #define LABEL PHOTOGRAPH, LENT(const uint8_t, MODULES), j->dim, j->x[0], j->x[1], LENT(const double, FIRST), j->flag[0]
 #define RAY PHOTOGRAPH, j->x[0], j->x[1], j->x[2], j->x[3], j->x[4], j->flag[0], j->flag[1]
 #define CAMERA LENT(const double, THIRD), j->lens
+#define GIVEN CAMERA, LENT(const double, SECOND)
 #define INTO LENT(double, VALUES)
 #define ANSWER INTO, LENT(uint32_t, COUNTS)
 #define MARKS LENT(uint8_t, SHEET), LENT(uint8_t, COPY)
@@ -93,6 +101,9 @@ uint32_t make_call(const struct job *j, const struct desk *d) {
     case RUN_CARD: return trufolmesca_run_card(LENT(const uint8_t, CARD), LENT(uint8_t, RESULT));
     case WIDEN: return trufolmesca_widen_result_card(LENT(const uint8_t, CARD), LENT(uint8_t, RESULT));
     case NARROW: return trufolmesca_narrow_result_card(LENT(const uint8_t, CARD), LENT(uint8_t, RESULT));
+    case REFINE_WITH: return trufolmesca_refine_corners_with(LABEL, GIVEN, ANSWER);
+    case REFINE_MARKING_WITH: return trufolmesca_refine_corners_marking_with(LABEL, GIVEN, ANSWER, MARKS);
+    case LOCALIZE_WITH: return trufolmesca_localize_edge_point_with(RAY, GIVEN, INTO);
     default: return 0;
     }
 }
@@ -105,4 +116,28 @@ uint32_t refined(const struct job *j, double places[8], uint32_t counts[20]) {
                                                  j->x[1], j->floats[0], 8, j->flag[0], j->floats[2], 13, j->lens, places, 8, counts, 20);
     return trufolmesca_refine_corners(bytes, j->len[BYTES], j->width, j->height, j->stride, modules, j->len[MODULES], j->dim, j->x[0], j->x[1],
                                       j->floats[0], 8, j->flag[0], places, 8, counts, 20);
+}
+
+const double defaults[SETTINGS] = TRUFOLMESCA_DEFAULT_SETTINGS;
+const struct range ranges[SETTINGS] = {{0, 1, false},   {0, 1, false},   {1, 10, false},  {1, 354, true}, {2, 354, true},
+                                       {1, 255, true},  {0, 100, false}, {0, 100, false}, {1, 4, true}};
+
+#define TO_VALUES to->values, j->len[VALUES]
+#define TO_ANSWER TO_VALUES, to->counts, j->len[COUNTS]
+#define TO_MARKS to->sheet, j->len[SHEET], to->copy, j->len[COPY]
+
+/* The call that a job under settings would make without them: plain where its camera's list is empty, to buffers of the same lengths,
+   which hold canaries before it. */
+uint32_t call_without_settings(const struct job *j, const struct desk *d, struct written *to) {
+    bool mapped = j->len[THIRD] > 0;
+    memset(to, CANARY, sizeof *to);
+    switch (j->call) {
+    case REFINE_WITH:
+        return mapped ? trufolmesca_refine_corners_mapped(LABEL, CAMERA, TO_ANSWER) : trufolmesca_refine_corners(LABEL, TO_ANSWER);
+    case REFINE_MARKING_WITH:
+        return mapped ? trufolmesca_refine_corners_mapped_marking(LABEL, CAMERA, TO_ANSWER, TO_MARKS)
+                      : trufolmesca_refine_corners_marking(LABEL, TO_ANSWER, TO_MARKS);
+    default:
+        return mapped ? trufolmesca_localize_edge_point_mapped(RAY, CAMERA, TO_VALUES) : trufolmesca_localize_edge_point(RAY, TO_VALUES);
+    }
 }

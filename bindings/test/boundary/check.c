@@ -41,10 +41,10 @@ static bool flags_are_bits(const struct job *job, const struct desk *desk) {
     return true;
 }
 
-/* What is wrong with sheet and copy: both stay behind 1 to 7; else the sheet has 0 and 1, the copy the pixels that have a 1. */
+/* What is wrong with sheet and copy: both stay behind 1 to 7 and 25; else the sheet has 0 and 1, the copy the pixels that have a 1. */
 static const char *wrong_with_marks(const struct job *job, const struct desk *desk, uint32_t number) {
     const uint8_t *sheet = desk->at[SHEET], *copy = desk->at[COPY], *bytes = desk->at[BYTES];
-    size_t area = 1 <= number && number <= 7 ? 0 : (size_t)job->width * job->height;
+    size_t area = (1 <= number && number <= 7) || number == 25 ? 0 : (size_t)job->width * job->height;
     if (area > job->len[SHEET] || area > job->len[COPY]) return "the marks were written though they do not fit";
     for (size_t i = 0; i < area; ++i) {
         size_t row = i / job->width, column = i % job->width;
@@ -153,6 +153,47 @@ static bool converted_is_right(const struct job *job, const struct desk *desk, u
     return same;
 }
 
+/* ---- settings */
+
+/* Whether settings are taken: nine or more, the first nine each within its range, and whole where they must be. */
+static bool settings_are_good(const double *settings, size_t n) {
+    for (size_t i = 0; i < SETTINGS; ++i) {
+        if (i >= n || !(ranges[i].least <= settings[i] && settings[i] <= ranges[i].most)) return false;
+        if (ranges[i].whole && settings[i] != floor(settings[i])) return false;
+    }
+    return true;
+}
+
+/* Whether the buffers of a job hold what another call wrote. */
+static bool wrote_the_same(const struct job *job, const struct desk *desk, const struct written *other) {
+    const struct {
+        enum list list;
+        const void *at;
+    } buffers[] = {{VALUES, other->values}, {COUNTS, other->counts}, {SHEET, other->sheet}, {COPY, other->copy}};
+    for (size_t i = 0; i < sizeof buffers / sizeof *buffers; ++i) {
+        enum list list = buffers[i].list;
+        if (lends(job, list) && memcmp(desk->at[list], buffers[i].at, job->len[list] * element_sizes[list])) return false;
+    }
+    return true;
+}
+
+/* What is wrong with a call under settings, held against the one without: 1 to 6 come first, then 25, then 7; and under the defaults
+   both leave the same. */
+static const char *wrong_under_settings(const struct job *job, const struct desk *desk, uint32_t number) {
+    static _Thread_local struct written other;
+    const double *settings = (const void *)desk->at[SECOND];
+    uint32_t without = call_without_settings(job, desk, &other);
+    bool good = settings_are_good(settings, job->len[SECOND]), entered = without == 0 || without > 7;
+    if (!good || !entered) {
+        uint32_t expected = !good && (entered || without == 7) ? 25 : without;
+        return number == expected ? NULL : "the checks are not in the order of the header";
+    }
+    if ((1 <= number && number <= 7) || number == 25) return "good settings are refused";
+    if (memcmp(settings, defaults, sizeof defaults)) return NULL;
+    bool same = number == without && wrote_the_same(job, desk, &other);
+    return same ? NULL : "under the defaults it is not the call without settings";
+}
+
 const char *wrong_after(const struct job *job, const struct desk *desk, uint32_t number) {
     const struct kind *kind = &kinds[job->call];
     if (number >= NUMBERS || !(kind->numbers >> number & 1)) return "the number is none of this call's";
@@ -166,7 +207,8 @@ const char *wrong_after(const struct job *job, const struct desk *desk, uint32_t
     if (lends(job, HEIGHTS)) return scan_is_right(job, desk, number) ? NULL : "the scan is not smoothed as the header says";
     if (!buffer_is_right(job, desk, VALUES, kind->values, number != 0)) return "the values are not written as the header says";
     if (job->call == SQRT && !root_is_right(job, desk)) return "the root is not the processor's";
-    if (!lends(job, COUNTS)) return NULL;
+    const char *wrong = takes_settings(job) ? wrong_under_settings(job, desk, number) : NULL;
+    if (wrong || !lends(job, COUNTS)) return wrong;
     if (!buffer_is_right(job, desk, COUNTS, COUNTED, number != 0)) return "the counts are not written as the header says";
     if (!flags_are_bits(job, desk)) return "a flag is neither 0 nor 1";
     return lends(job, SHEET) ? wrong_with_marks(job, desk, number) : NULL;

@@ -90,6 +90,20 @@ static void rectify(const struct job *j, double *x, double *y) {
     *y = (*y - camera[3]) / camera[1] * camera[5] + camera[7];
 }
 
+/* The camera of a call that is lent one; none, its list empty and the kind of its lens any, of some that also take settings. */
+static void lend_view(struct job *j, struct random *r, double side) {
+    if (!lends(j, THIRD)) return;
+    if (!takes_settings(j) || chance(r, 60)) {
+        lend_camera(j, r, side);
+        return;
+    }
+    memset(j->floats[2], 0, sizeof j->floats[2]);
+    lend_floats(j, THIRD, 0);
+    j->lens = any_size(r);
+}
+
+static bool has_camera(const struct job *j) { return j->len[THIRD] > 0; }
+
 static void spoil_camera(struct job *j, struct random *r) {
     if (chance(r, 50))
         spoil_float(j, THIRD, 13, r);
@@ -97,6 +111,44 @@ static void spoil_camera(struct job *j, struct random *r) {
         j->lens = any_size(r);
     else
         j->len[THIRD] = any_length(r, chance(r, 50) ? 8 : 13, MOST_FLOATS);
+}
+
+/* ---- settings */
+
+/* A setting that is taken: at an end of its range, the default, or between. */
+static double any_setting(struct random *r, int at) {
+    const struct range range = ranges[at];
+    switch (below(r, 4)) {
+    case 0: return range.least == 0 && chance(r, 50) ? -0.0 : range.least;
+    case 1: return range.most;
+    case 2: return defaults[at];
+    default: return range.whole ? range.least + below(r, (uint32_t)(range.most - range.least) + 1) : between(r, range.least, range.most);
+    }
+}
+
+/* One beside an end of its range, or a whole number and something, or such that 32 bits make a good one of it, or a float of any
+   class; or a list too short. */
+static void spoil_settings(struct job *j, struct random *r) {
+    uint32_t at = below(r, SETTINGS);
+    double *x = &j->floats[SECOND - FIRST][at], end = chance(r, 50) ? ranges[at].least : ranges[at].most;
+    switch (below(r, 7)) {
+    case 0: *x = nextafter(end, -INFINITY); break;
+    case 1: *x = nextafter(end, INFINITY); break;
+    case 2: *x = end + (chance(r, 50) ? 1 : -1); break;
+    case 3: *x = end + (chance(r, 50) ? 0.5 : -0.5); break;
+    case 4: *x = end + 0x1p32; break;
+    case 5: *x = any_float(r); break;
+    default: j->len[SECOND] = below(r, SETTINGS);
+    }
+}
+
+/* The defaults or others, mostly such that are taken, and now and then with something behind them, which is not read. */
+static void lend_settings(struct job *j, struct random *r) {
+    double *settings = j->floats[SECOND - FIRST];
+    bool others = chance(r, 60);
+    for (int i = 0; i < MOST_FLOATS; ++i) settings[i] = i >= SETTINGS ? any_float(r) : others ? any_setting(r, i) : defaults[i];
+    lend_floats(j, SECOND, SETTINGS + (chance(r, 20) ? below(r, 4) : 0));
+    if (chance(r, 20)) spoil_settings(j, r);
 }
 
 /* ---- refinements */
@@ -158,7 +210,7 @@ static void lend_corners(struct job *j, const struct scene *s, struct random *r)
     for (int i = 0; i < CORNERS; ++i) q[i] = s->corners[i] + between(r, -0.5, 0.5);
     if (s == &scenes[BLOCK] && chance(r, 40)) make_thin(j, s, r);
     for (int i = 0; i < CORNERS; i += 2) {
-        if (lends(j, THIRD)) rectify(j, &q[i], &q[i + 1]);
+        if (has_camera(j)) rectify(j, &q[i], &q[i + 1]);
         q[i] *= j->x[0];
         q[i + 1] *= j->x[1];
     }
@@ -182,8 +234,9 @@ static void make_refinement(struct job *j, struct random *r) {
     j->x[0] = chance(r, 50) ? 1.0 : between(r, 0.2, 3.0);
     j->x[1] = chance(r, 50) ? j->x[0] : between(r, 0.2, 3.0);
     j->flag[0] = s->inverted;
-    if (lends(j, THIRD)) lend_camera(j, r, s->width);
+    lend_view(j, r, s->width);
     lend_corners(j, s, r);
+    if (takes_settings(j)) lend_settings(j, r);
     for (uint32_t faults = below(r, 10); faults > 6; --faults) spoil_refinement(j, r);
     j->len[COUNTS] = any_length(r, 20, MOST_COUNTS);
     if (lends(j, SHEET)) lend_marks(j, r);
@@ -209,8 +262,8 @@ static void make_ray(struct job *j, struct random *r) {
     lend_photograph(j, s);
     j->x[0] = s->corners[from] + t * dx;
     j->x[1] = s->corners[from + 1] + t * dy;
-    if (lends(j, THIRD)) {
-        lend_camera(j, r, s->width);
+    lend_view(j, r, s->width);
+    if (has_camera(j)) {
         rectify(j, &j->x[0], &j->x[1]);
         scale = j->floats[2][4] / j->floats[2][0];
     }
@@ -219,6 +272,7 @@ static void make_ray(struct job *j, struct random *r) {
     j->x[4] = 0.5 * scale * side / s->dim;
     j->flag[0] = s->inverted;
     j->flag[1] = chance(r, 50);
+    if (takes_settings(j)) lend_settings(j, r);
     for (uint32_t faults = below(r, 6); faults > 3; --faults) {
         if (chance(r, 40)) spoil_photograph(j, r);
         else if (lends(j, THIRD) && chance(r, 50)) spoil_camera(j, r);
@@ -371,10 +425,12 @@ void make_job(struct job *j, uint64_t seed, uint64_t index) {
     j->index = index;
     j->call = (enum call)(index % CALLS);
     switch (j->call) {
-    case REFINE: case REFINE_MAPPED: case REFINE_MARKING: case REFINE_MAPPED_MARKING: make_refinement(j, &r); break;
+    case REFINE: case REFINE_MAPPED: case REFINE_MARKING: case REFINE_MAPPED_MARKING: case REFINE_WITH: case REFINE_MARKING_WITH:
+        make_refinement(j, &r);
+        break;
     case SAMPLE: make_sample(j, &r); break;
     case TO_SOURCE: make_place(j, &r); break;
-    case LOCALIZE: case LOCALIZE_MAPPED: make_ray(j, &r); break;
+    case LOCALIZE: case LOCALIZE_MAPPED: case LOCALIZE_WITH: make_ray(j, &r); break;
     case FIT_LINE: make_points(j, &r); break;
     case INTERSECT: make_lines(j, &r); break;
     case SQRT: j->x[0] = any_float(&r); break;

@@ -41,7 +41,7 @@ static void keep_state(const struct job *job, const struct desk *desk) {
 }
 
 uint32_t __wrap_make_call(const struct job *job, const struct desk *desk) {
-    if (PLANTED == NEEDS_STACK) *(volatile uint8_t *)alloca(1024) = 0;
+    if (PLANTED == NEEDS_STACK) *(volatile uint8_t *)alloca(4096) = 0;
     uint32_t number = __real_make_call(job, desk);
     if (lends(job, IN)) plant(job, desk, number);
     if (PLANTED == KEEPS_STATE) keep_state(job, desk);

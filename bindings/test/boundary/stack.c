@@ -1,4 +1,4 @@
-/* Calls with 10 KB of stack and a page that may not be touched below it; how much of it each uses. */
+/* Calls with 20 KB of stack and a page that may not be touched below it; how much of it each uses. */
 #include "boundary.h"
 
 #include <alloca.h>
@@ -8,7 +8,7 @@
 #include <string.h>
 #include <ucontext.h>
 
-enum { ROOM = 10 * 1024, ABOVE = 1 << 16, PAINT = 0x5B };
+enum { ROOM = 20 * 1024, ABOVE = 1 << 16, PAINT = 0x5B };
 
 /* The small stack, and the call that is made on it. */
 static struct {

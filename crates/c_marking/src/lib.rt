@@ -4,8 +4,10 @@
 #![tactic(auto)]
 
 ghost use Rattle.std.specs.Prelude.{None};
+ghost use Rattle.consts.specs.Consts.{defaults};
 ghost use Rattle.request.specs.Requests.{photograph};
-ghost use Rattle.c_views.specs.Views.{view_of};
+ghost use Rattle.c_settings.specs.Lent.{settings_of};
+ghost use Rattle.c_views.specs.Views.{any_view_of, view_of};
 ghost use Rattle.c_requests.specs.Requests.{lent_request};
 ghost use Rattle.c_marking.specs.Calls.{WrittenMarked};
 
@@ -28,12 +30,15 @@ pub fn refine_corners_marking(
     sheet: &mut [u8],
     copy: &mut [u8],
 ) -> u32
-    ensures { WrittenMarked (lent_request width height dim sx sy corners.now inverted None)
+    ensures { WrittenMarked (lent_request width height dim sx sy corners.now inverted None defaults)
         modules.now (photograph bytes.now stride) result
         places.old places.new counts.old counts.new
         sheet.old sheet.new copy.old copy.new }
 {
-    let request = c_requests::request_of(width, height, dim, sx, sy, corners, inverted, None);
+    let settings = consts::defaults();
+    let request = c_requests::request_of(
+        width, height, dim, sx, sy, corners, inverted, None, settings,
+    );
     let photograph = Photograph { bytes, stride };
     let answer = marking::refine_corners_marking(photograph, modules, request, sheet, copy);
     c_answers::put_answer(answer, places, counts)
@@ -58,14 +63,54 @@ pub fn refine_corners_mapped_marking(
     sheet: &mut [u8],
     copy: &mut [u8],
 ) -> u32
-    ensures { WrittenMarked (lent_request width height dim sx sy corners.now inverted (view_of camera.now lens))
+    ensures { WrittenMarked (lent_request width height dim sx sy corners.now inverted (view_of camera.now lens) defaults)
         modules.now (photograph bytes.now stride) result
         places.old places.new counts.old counts.new
         sheet.old sheet.new copy.old copy.new }
 {
     let view = c_views::view_of(camera, lens);
-    let request = c_requests::request_of(width, height, dim, sx, sy, corners, inverted, view);
+    let settings = consts::defaults();
+    let request = c_requests::request_of(
+        width, height, dim, sx, sy, corners, inverted, view, settings,
+    );
     let photograph = Photograph { bytes, stride };
     let answer = marking::refine_corners_mapped_marking(photograph, modules, request, sheet, copy);
     c_answers::put_answer(answer, places, counts)
+}
+
+// A label's corners under settings, through a camera or without one where its list is empty, marked:
+// `marking::refine_corners_mapped_marking` over lists.
+pub fn refine_corners_marking_with(
+    bytes: &[u8],
+    width: u32,
+    height: u32,
+    stride: u32,
+    modules: &[u8],
+    dim: u32,
+    sx: f64,
+    sy: f64,
+    corners: &[f64],
+    inverted: bool,
+    camera: &[f64],
+    lens: u32,
+    settings: &[f64],
+    places: &mut [f64],
+    counts: &mut [u32],
+    sheet: &mut [u8],
+    copy: &mut [u8],
+) -> u32
+    ensures { WrittenMarked (lent_request width height dim sx sy corners.now inverted
+        (any_view_of camera.now lens) (settings_of settings.now))
+        modules.now (photograph bytes.now stride) result
+        places.old places.new counts.old counts.new
+        sheet.old sheet.new copy.old copy.new }
+{
+    let view = c_views::any_view_of(camera, lens);
+    let settings = c_settings::settings_of(settings);
+    let request = c_requests::request_of(
+        width, height, dim, sx, sy, corners, inverted, view, settings,
+    );
+    let photograph = Photograph { bytes, stride };
+    let refined = marking::refine_corners_mapped_marking(photograph, modules, request, sheet, copy);
+    c_answers::put_answer(refined, places, counts)
 }

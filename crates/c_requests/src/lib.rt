@@ -5,6 +5,7 @@
 ghost use Rattle.std.specs.Prelude.{◌≡◌};
 ghost use Rattle.c_requests.specs.Requests.{lent_request};
 
+use consts::Settings;
 use footprint::View;
 use request::Request;
 
@@ -18,8 +19,9 @@ pub fn request_of(
     corners: &[f64],
     inverted: bool,
     view: View,
+    settings: Settings,
 ) -> Request
-    ensures { result ≡ lent_request width height dim sx sy corners.now inverted view }
+    ensures { result ≡ lent_request width height dim sx sy corners.now inverted view settings }
 {
     Request {
         width,
@@ -30,6 +32,6 @@ pub fn request_of(
         corners: c_lists::working_of(corners),
         inverted,
         view,
-        settings: consts::defaults(),
+        settings,
     }
 }

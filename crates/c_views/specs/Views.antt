@@ -1,7 +1,8 @@
 -- The camera, the view and the border that the calls for C and Rust are lent: a camera as a list of
 -- numbers (`c_lists/specs/Lent`) and the kind of its lens, a border as a code. Definitions only, to
 -- be believed.
-use Rattle.std.specs.Prelude.{ℕ, ◌+◌, List, eqb, Float, Some}
+use Rattle.std.specs.Prelude.{ℕ, ◌+◌, List, eqb, length, Float, Some}
+use Rattle.std.specs.Prelude.{None as no_view}
 use Rattle.std.specs.Float.{nan}
 use Rattle.prelude.specs.Prelude.{when◌then◌else◌}
 use Rattle.camera.specs.declared.CameraIntrinsics.{CameraIntrinsics}
@@ -37,6 +38,10 @@ camera_of s lens = record { intrinsics = intrinsics_at s 0; rectified = intrinsi
 -- the photograph, seen through that camera
 abbrev pub view_of : List Float → ℕ → View
 view_of s lens = Some (camera_of s lens)
+
+-- no camera where the list is empty
+abbrev pub any_view_of : List Float → ℕ → View
+any_view_of s lens = when eqb (length s) 0 then no_view else view_of s lens
 
 -- 0 rejects, 1 clamps, anything else answers with the constant
 abbrev pub border_of : ℕ → ℕ → BorderMode

@@ -2,7 +2,7 @@
 #![tactic(auto)]
 
 ghost use Rattle.std.specs.Prelude.{◌≡◌, ◌≤◌};
-ghost use Rattle.c_views.specs.Views.{intrinsics_at, unknown_lens, lens_of, camera_of, view_of, border_of};
+ghost use Rattle.c_views.specs.Views.{intrinsics_at, unknown_lens, lens_of, camera_of, view_of, any_view_of, border_of};
 
 use c_lists::float_at;
 use camera::{CameraCalibration, CameraIntrinsics, LensDistortion};
@@ -69,6 +69,13 @@ pub fn camera_of(s: &[f64], lens: u32) -> CameraCalibration
         rectified: intrinsics_at(s, 4),
         distortion: lens_of(s, lens),
     }
+}
+
+// The photograph seen through the camera of a list, or as it is where the list is empty.
+pub fn any_view_of(s: &[f64], lens: u32) -> View
+    ensures { result ≡ any_view_of s.now lens }
+{
+    if s.is_empty() { None } else { view_of(s, lens) }
 }
 
 // The photograph seen through the camera of a list.

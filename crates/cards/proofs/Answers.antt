@@ -5,7 +5,6 @@ use native.Mathlib.Omega.{arith}
 use mathlib.Core.List.{List}
 use Rattle.number.specs.declared.Refusal.TheVariants.{Card}
 use Rattle.prelude.proofs.Branches.{either}
-use Rattle.probes.proofs.Counts.{limit_in_room}
 use Rattle.round.proofs.Answers.{Sound, refused-sound}
 use Rattle.refine.proofs.Answers.{refine-sound}
 use Rattle.job_card.specs.JobCard.{well_formed}
@@ -15,5 +14,5 @@ use Rattle.cards.specs.Run.{job_answer}
 pub job-sound : (card : List ℕ) → Sound 255 (job_answer card)
 job-sound card =
     either (Sound 255) (well_formed card)
-    (refine-sound 255 (request_of card) (modules_of card) (photograph_of card) (omega (arith, limit_in_room (request_of card).settings)) refl)
+    (refine-sound 255 (request_of card) (modules_of card) (photograph_of card) (omega arith) refl)
     (refused-sound 255 Card)

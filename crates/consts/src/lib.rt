@@ -1,12 +1,12 @@
-// consts.rs: the numbers of the refinement, in one record that goes by value.
+// consts.rs: the numbers of the refinement, in one record that goes by value, and which of them are taken.
 #![tactic(auto)]
 
 ghost use Rattle.std.specs.Prelude.{◌≡◌};
-ghost use Rattle.consts.specs.Consts.{defaults as the_defaults};
+ghost use Rattle.consts.specs.Consts.{between, defaults as the_defaults, good_settings};
 
 #[derive(Clone, Copy)]
 pub struct Settings {
-    // Where in a dark border module its two probes stand: inside it, one to each side of its middle.
+    // Where in a dark border module its two probes stand; by default inside it, one to each side of its middle.
     pub probe_fraction_first: f64,
     pub probe_fraction_second: f64,
     // Modules left out at each end of an edge: blur rounds a corner over about a module.
@@ -25,8 +25,8 @@ pub struct Settings {
     pub rounds: u32,
 }
 
-// How many probes or points an edge's arrays hold.
-pub const MAX_EDGE_POINTS: usize = 64;
+// How many points an edge has room for: as many as settings may ask for, two for each of 177 modules.
+pub const MAX_EDGE_POINTS: usize = 354;
 
 // The numbers of consts.rs.
 pub fn defaults() -> Settings
@@ -43,4 +43,26 @@ pub fn defaults() -> Settings
         outlier_median_multiplier: 2.0,
         rounds: 2,
     }
+}
+
+// Whether a number lies between two others or is one of them. A NaN does not.
+fn between(low: f64, high: f64, x: f64) -> bool
+    ensures { result ≡ between low high x }
+{
+    low <= x && x <= high
+}
+
+// Whether each setting is within its range.
+pub fn good_settings(settings: Settings) -> bool
+    ensures { result ≡ good_settings settings }
+{
+    between(0.0, 1.0, settings.probe_fraction_first)
+        && between(0.0, 1.0, settings.probe_fraction_second)
+        && between(1.0, 10.0, settings.edge_margin_modules)
+        && (1 <= settings.max_points_per_edge && settings.max_points_per_edge <= 354)
+        && (2 <= settings.min_edge_points && settings.min_edge_points <= 354)
+        && (1 <= settings.contrast_floor && settings.contrast_floor <= 255)
+        && between(0.0, 100.0, settings.outlier_floor_modules)
+        && between(0.0, 100.0, settings.outlier_median_multiplier)
+        && (1 <= settings.rounds && settings.rounds <= 4)
 }

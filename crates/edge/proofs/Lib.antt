@@ -1,5 +1,4 @@
 -- The laws that the proofs of `edge` cite.
-pub mod Stores
 pub mod Probing
 -- what the crates above cite
 pub mod Counts

@@ -1,13 +1,11 @@
 -- A probe, and the probes after it, as steps of the tree that is left; then the line through what they found. Assumes nothing.
-use mathlib.Core.Path.{◌≡◌, sym, subst}
+use mathlib.Core.Path.{◌≡◌, ap, subst}
 use Prim.Native.Nat.{ℕ, ◌+◌, ◌≤◌, ◌<◌}
-use native.Mathlib.Numerals.{add-one}
 use native.Mathlib.Omega.{arith}
-use mathlib.Core.List.{List, [], ◌∷◌}
+use mathlib.Core.List.{List, [], ◌∷◌, ◌++◌}
+use borrow.Author.Tests.{lt-ltb}
 use Rattle.std.specs.Prelude.{Option, None, Some, Result}
-use lib.ListN.{length, get_or, take, drop}
-use lib.Seq.{drop-cons}
-use Rattle.std.proofs.Common.{drop_of_length-le}
+use lib.ListN.{length, length-append}
 use lib.Ieee.{Float}
 use Rattle.number.specs.declared.Refusal.{Refusal}
 use Rattle.consts.specs.Consts.{max_edge_points}
@@ -16,71 +14,66 @@ use Rattle.sample_tree.specs.SampleTree.{SampleTree, done}
 use Rattle.sample_tree.specs.declared.Sampler.{Sampler}
 use Rattle.sample_tree.specs.Samplers.{Samples}
 use Rattle.sample_tree.proofs.Samplers.{Left, start, called, end}
-use Rattle.fit.specs.Fit.{points_of, fit_edge}
+use Rattle.fit.specs.Fit.{with_point, fit_edge}
 use Rattle.fit.specs.declared.EdgeFit.{EdgeFit}
 use Rattle.probes.specs.declared.Probe.{Probe}
 use Rattle.probe.specs.declared.Plan.{Plan}
 use Rattle.probe.specs.declared.Side.{Side}
 use Rattle.probe.specs.declared.ProbeRay.{ProbeRay}
 use Rattle.probe.specs.Probe.{probe_ray}
-use Rattle.edge.specs.declared.Points.{Points}
 use Rattle.edge.specs.Edge.{localize_probe, probed, plus, points, fitted}
-use Rattle.edge.specs.Store.{found_points, Adds}
-use Rattle.edge.proofs.Stores.{Even, even_more, one_more, found_all}
-
--- probe i is the first of those that are left
-pub next : (ps lent : List Probe) (i : ℕ) (d : Probe) → lent ≡ ps → i < length lent → drop i ps ≡ get_or lent i d ∷ drop (i + 1) ps
-next ps lent i d same l = rw (← same, add-one i) (drop-cons lent i d l)
 
 module _ (plan : Plan) (side : Side) (ps : List Probe) where
   abbrev whole : SampleTree (List EdgePoint)
   whole = points plan side ps []
 
-  -- what is left after i probes
-  pub record Probed (first now : Sampler) (i : ℕ) (found : Points) : Type 0 where
-    pub even : Even found i
-    pub left : Left first now whole (points plan side (drop i ps) (found_points found))
+  -- what is left after n probes, of which each found at most one point
+  pub record Probed (first now : Sampler) (left : List Probe) (n : ℕ) (found : List EdgePoint) : Type 0 where
+    pub count : n + length left ≡ length ps
+    pub few : length found ≤ n
+    pub tree : Left first now whole (points plan side left found)
 
-  pub none_probed : {s : Sampler} (found : Points) → found.xs.items ≡ [] → found.ys.items ≡ [] → found.weights.items ≡ [] → Probed s s 0 found
-  unfolding points_of
-  none_probed {s} found hx hy hw = record {
-    even = record { ys_too = rw (hx, hy); weights_too = rw (hx, hw); few = rw hx (omega arith) };
-    left = rw hx start;
-  }
+  pub none_probed : {s : Sampler} {found : List EdgePoint} → found ≡ [] → Probed s s ps 0 found
+  none_probed none = rw none (record { count = omega arith; few = omega arith; tree = start })
 
-  module _ {first now after : Sampler} {i : ℕ} {found : Points} (had : Probed first now i found) {at : Probe} (next : drop i ps ≡ at ∷ drop (i + 1) ps)
+  module _ {first now after : Sampler} {left : List Probe} {n : ℕ} {found : List EdgePoint} {left' : List Probe} {at : Probe}
+      (had : Probed first now left n found) (next : left ≡ at ∷ left')
       {aim : ProbeRay} (is : aim ≡ probe_ray plan side at) {r : Option EdgePoint} (ran : Samples now after (localize_probe plan.settings aim) r) where
-    turn : Left first after whole (points plan side (drop (i + 1) ps) (plus (found_points found) r))
+    turn : Left first after whole (points plan side left' (plus found r))
     unfolding points
     turn =
-        called (probed plan side at) (λ z. points plan side (drop (i + 1) ps) (plus (found_points found) z))
-        (rw next at had.left)
+        called (probed plan side at) (λ z. points plan side left' (plus found z))
+        (rw next at had.tree)
         (subst (λ (z : ProbeRay). Samples now after (localize_probe plan.settings z) r) is ran)
 
-    left_with : {z : Option EdgePoint} → r ≡ z → Left first after whole (points plan side (drop (i + 1) ps) (plus (found_points found) z))
-    left_with h = subst (λ (z : Option EdgePoint). Left first after whole (points plan side (drop (i + 1) ps) (plus (found_points found) z))) h turn
+    counted_on : n + 1 + length left' ≡ length ps
+    counted_on = omega (arith, ap length next, had.count)
+
+    left_with : {z : Option EdgePoint} → r ≡ z → Left first after whole (points plan side left' (plus found z))
+    left_with h = subst (λ (z : Option EdgePoint). Left first after whole (points plan side left' (plus found z))) h turn
 
     -- a point is behind the others
-    pub one_found : {p : EdgePoint} {found' : Points} → r ≡ Some p → Adds p found found' → Probed first after (i + 1) found'
-    one_found {p} {found'} h adds = record {
-      even = even_more p found found' i had.even adds;
-      left = subst (λ (g : List EdgePoint). Left first after whole (points plan side (drop (i + 1) ps) g)) (sym (one_more p found found' i had.even adds)) (left_with h);
-    }
+    pub one_found : {p : EdgePoint} {found' : List EdgePoint} → length ps ≤ max_edge_points → r ≡ Some p → found' ≡ with_point found p → Probed first after left' (n + 1) found'
+    one_found {p} {found'} room h put =
+        let there : length found < max_edge_points = omega (arith, had.few, ap length next, had.count) in
+        let behind : found' ≡ found ++ p ∷ [] = rw put (rw (lt-ltb (length found) max_edge_points there)) in
+        rw behind
+        (record {
+          count = counted_on;
+          few = omega (arith, had.few, length-append found (p ∷ []));
+          tree = left_with h;
+        })
 
     -- none is
-    pub none_found : r ≡ None → Probed first after (i + 1) found
-    none_found h = record {
-      even = record { ys_too = had.even.ys_too; weights_too = had.even.weights_too; few = omega (arith, had.even.few) };
-      left = left_with h;
-    }
+    pub none_found : r ≡ None → Probed first after left' (n + 1) found
+    none_found h = record { count = counted_on; few = omega (arith, had.few); tree = left_with h }
 
-  pub all_probed : {first now : Sampler} {i : ℕ} {found : Points} → length ps ≤ i → Probed first now i found → Samples first now whole (found_points found)
+  pub all_probed : {first now : Sampler} {left : List Probe} {n : ℕ} {found : List EdgePoint} → left ≡ [] → Probed first now left n found → Samples first now whole found
   unfolding points
-  all_probed l had = end (rw (drop_of_length-le ps l) at had.left)
+  all_probed none had = end (rw none at had.tree)
 
   -- the line through the points that were found
-  pub line_fitted : {first now : Sampler} (found : Points) (module_px : Float) {r : Result EdgeFit Refusal} → Samples first now whole (found_points found)
-      → length found.xs.items ≤ max_edge_points → r ≡ fit_edge plan.settings (length ps) module_px (take max_edge_points (found_points found))
-      → Samples first now (fitted plan side module_px ps) r
-  line_fitted found module_px ran few is =
-      rw (is, found_all found few) (end (called whole (λ got. done (fit_edge plan.settings (length ps) module_px got)) start ran))
+  pub line_fitted : {first now : Sampler} {found : List EdgePoint} (n : ℕ) (module_px : Float) {r : Result EdgeFit Refusal} → Samples first now whole found
+      → n ≡ length ps → r ≡ fit_edge plan.settings n module_px found → Samples first now (fitted plan side module_px ps) r
+  line_fitted n module_px ran e is =
+      rw (is, e) (end (called whole (λ got. done (fit_edge plan.settings (length ps) module_px got)) start ran))

@@ -1,3 +1,2 @@
 -- What the contracts of `edge` cite.
 pub mod Edge
-pub mod Store

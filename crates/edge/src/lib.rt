@@ -1,19 +1,17 @@
 // refine.rs, one edge of a round: its probes, the points that they find, and the line through those.
 #![tactic(auto)]
 
-ghost use Rattle.std.specs.Prelude.{◌≡◌, [], ◌≤◌, ◌<◌, length};
+ghost use Rattle.std.specs.Prelude.{◌≡◌, [], ◌≤◌, length};
 ghost use Rattle.consts.specs.Consts.{max_edge_points};
 ghost use Rattle.sample_tree.specs.Samplers.{Samples};
 ghost use Rattle.edge.specs.Edge.{localize_probe, points, edge_length, edge as edge_of};
-ghost use Rattle.edge.specs.Store.{found_points, IsEmpty, HasRoom, Adds};
 
-use arrayvec::ArrayVec;
-use consts::{MAX_EDGE_POINTS, Settings};
-use fit::EdgeFit;
+use consts::Settings;
+use fit::{EdgeFit, EdgePoints};
 use number::Refusal;
 use pixel::{EdgePoint, SourcePixel};
 use probe::{Plan, ProbeRay, Side};
-use probes::Probe;
+use probes::Probes;
 use sample_tree::Sampler;
 
 // ---- a probe's point
@@ -30,47 +28,29 @@ fn localize_probe(sampler: &mut Sampler, settings: Settings, aim: ProbeRay) -> O
 
 // ---- the points
 
-// The points of an edge, each by its x, its y and its weight. Three lists stay, since the C interface lends the
-// line's fit three.
-#[derive(Drop)]
-struct Points {
-    xs: ArrayVec<f64, MAX_EDGE_POINTS>,
-    ys: ArrayVec<f64, MAX_EDGE_POINTS>,
-    weights: ArrayVec<f64, MAX_EDGE_POINTS>,
-}
-
-impl Points {
-    // One more point.
-    fn push(&mut self, point: EdgePoint)
-        requires { HasRoom self.old }
-        ensures { Adds point self.old self.new }
-    {
-        self.xs.push(point.pos.0);
-        self.ys.push(point.pos.1);
-        self.weights.push(point.weight);
-    }
-}
-
-// The points that an edge's probes find, into a list without one. It is lent the list, since one that is handed back
-// lies on the stack twice.
+// The points that an edge's probes find, put where there is none yet; and how many probes there are.
 #[inline(never)]
 fn find_points(
     sampler: &mut Sampler,
     plan: Plan,
     side: Side,
-    probes: &ArrayVec<Probe, MAX_EDGE_POINTS>,
-    found: &mut Points,
-)
-    requires { IsEmpty found.old }
-    ensures { Samples sampler.old sampler.new (points plan side probes.now.items [])
-        (found_points found.new) }
+    probes: Probes,
+    found: &mut EdgePoints,
+) -> u32
+    requires none { found.old ≡ [] }
+    requires few { length probes ≤ max_edge_points }
+    ensures found { Samples sampler.old sampler.new (points plan side probes.entry []) found.new }
+    ensures probed { result ≡ length probes.entry }
 {
-    for probe in probes.as_slice() {
-        let aim = probe::probe_ray(plan, side, *probe);
+    let mut probed: u32 = 0;
+    for probe in probes {
+        let aim = probe::probe_ray(plan, side, probe);
         if let Some(point) = localize_probe(sampler, plan.settings, aim) {
             found.push(point);
         }
+        probed += 1;
     }
+    probed
 }
 
 // ---- the edge
@@ -84,15 +64,19 @@ fn length_of(a: SourcePixel, b: SourcePixel) -> f64
     ieee_root::sqrt(dx * dx + dy * dy)
 }
 
-// One edge of a round: where its corners coincide there is no line, and nothing is counted.
+// One edge of a round: where its corners coincide there is no line, and nothing is counted. The points are those of this
+// edge alone, in room that is lent, and are taken away again.
 pub fn refine_edge(
     sampler: &mut Sampler,
+    found: &mut EdgePoints,
     plan: Plan,
     modules: &[u8],
     side: Side,
 ) -> Result<EdgeFit, Refusal>
-    ensures { Samples sampler.old sampler.new (edge_of plan modules.now side) result }
+    ensures answer { Samples sampler.old sampler.new (edge_of plan modules.now side) result }
+    ensures left { found.new ≡ [] }
 {
+    found.clear();
     let len = length_of(side.from, side.to);
     if len < 1e-9 {
         return Ok(EdgeFit {
@@ -101,18 +85,6 @@ pub fn refine_edge(
         });
     }
     let probes = probes::probes_of(plan.settings, modules, plan.dim, side.edge);
-    let mut found = Points {
-        xs: ArrayVec::new(),
-        ys: ArrayVec::new(),
-        weights: ArrayVec::new(),
-    };
-    find_points(sampler, plan, side, &probes, &mut found);
-    fit::fit_edge(
-        plan.settings,
-        found.xs.as_slice(),
-        found.ys.as_slice(),
-        found.weights.as_slice(),
-        probes.len() as u32,
-        len / plan.dim as f64,
-    )
+    let probed = find_points(sampler, plan, side, probes, found);
+    found.fit_edge(plan.settings, probed, len / plan.dim as f64)
 }

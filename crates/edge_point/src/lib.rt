@@ -1,9 +1,10 @@
-// refine.rs, `localize_edge_point` as a call: the checks of photograph and camera, then the point, or `Profile`.
+// refine.rs, `localize_edge_point` as a call: the checks of photograph, camera and settings, then the point, or `Profile`.
 #![tactic(auto)]
 
 ghost use Rattle.std.specs.Prelude.{◌≡◌};
-ghost use Rattle.edge_point.specs.EdgePoint.{localize_edge_point, view_check};
+ghost use Rattle.edge_point.specs.EdgePoint.{entry_check, localize_edge_point};
 
+use consts::Settings;
 use footprint::Scene;
 use number::Refusal;
 use photograph::Photograph;
@@ -11,28 +12,31 @@ use pixel::EdgePoint;
 use profile::Ray;
 use sample_tree::{Meter, Sampler};
 
-// The checks of the photograph, `Size` and `Photograph`, and of its camera, `Lens`.
-fn check_view(photograph: Photograph, scene: Scene) -> Result<(), Refusal>
-    ensures { result ≡ view_check photograph.entry.bytes.now photograph.entry.stride scene }
+// The checks of the photograph, `Size` and `Photograph`, of its camera, `Lens`, and of the settings, `Settings`.
+fn check_entry(photograph: Photograph, scene: Scene, settings: Settings) -> Result<(), Refusal>
+    ensures { result ≡ entry_check photograph.entry.bytes.now photograph.entry.stride scene settings }
 {
     photograph.check(scene.width, scene.height)?;
-    if footprint::good_view(scene.view) {
-        Ok(())
-    } else {
-        Err(Refusal::Lens)
+    if !footprint::good_view(scene.view) {
+        return Err(Refusal::Lens);
     }
+    if !consts::good_settings(settings) {
+        return Err(Refusal::Settings);
+    }
+    Ok(())
 }
 
-// An edge point of a photograph, as it is or through a camera, or the refusal of those, or `Profile` where the
-// profile has no edge point. No marks are wanted, so an empty sheet and an empty copy are lent.
+// An edge point of a photograph, as it is or through a camera, or the refusal of those or of the settings, or
+// `Profile` where the profile has no edge point. No marks are wanted, so an empty sheet and an empty copy are lent.
 pub fn localize_edge_point(
     photograph: Photograph,
     scene: Scene,
+    settings: Settings,
     ray: Ray,
 ) -> Result<EdgePoint, Refusal>
-    ensures { result ≡ localize_edge_point photograph.entry.bytes.now photograph.entry.stride scene ray }
+    ensures { result ≡ localize_edge_point photograph.entry.bytes.now photograph.entry.stride scene settings ray }
 {
-    check_view(photograph, scene)?;
+    check_entry(photograph, scene, settings)?;
     let mut sampler = Sampler {
         photograph,
         scene,
@@ -40,6 +44,6 @@ pub fn localize_edge_point(
         copy: &mut [],
         meter: Meter::default(),
     };
-    let point = profile::localize(&mut sampler, consts::defaults(), ray);
+    let point = profile::localize(&mut sampler, settings, ray);
     point.ok_or(Refusal::Profile)
 }

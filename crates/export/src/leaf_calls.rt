@@ -15,7 +15,9 @@ ghost use Rattle.line.specs.Line.{crossing, cross_answer};
 ghost use Rattle.line_fit.specs.LineFit.{fit_line};
 ghost use Rattle.edge_point.specs.EdgePoint.{localize_edge_point};
 ghost use Rattle.c_lists.specs.Lent.{quad_of, map_of, line_of};
-ghost use Rattle.c_views.specs.Views.{camera_of, view_of, border_of};
+ghost use Rattle.consts.specs.Consts.{defaults};
+ghost use Rattle.c_settings.specs.Lent.{settings_of};
+ghost use Rattle.c_views.specs.Views.{camera_of, view_of, any_view_of, border_of};
 ghost use Rattle.c_buffers.specs.Buffers.{with_place, with_point, with_line, with_map, zero_place, zero_point, zero_line, zero_map};
 ghost use Rattle.c_edge_points.specs.EdgePoints.{lent_scene, lent_ray};
 ghost use Rattle.smooth.specs.Smooth.{to_answer, smoothed_to, over_answer, smoothed_over};
@@ -159,10 +161,10 @@ pub extern "C" fn trufolmesca_localize_edge_point(
     inward_differs: bool,
     point: &mut [f64],
 ) -> u32
-    ensures value { result ≡ number_of (localize_edge_point bytes.now stride (lent_scene width height None)
+    ensures value { result ≡ number_of (localize_edge_point bytes.now stride (lent_scene width height None) defaults
         (lent_ray coarse_x coarse_y normal_x normal_y step inverted inward_differs)) }
     ensures point_after { point.new ≡ with_point (result_unwrap_or (localize_edge_point bytes.now stride
-        (lent_scene width height None)
+        (lent_scene width height None) defaults
         (lent_ray coarse_x coarse_y normal_x normal_y step inverted inward_differs)) zero_point) point.old }
 {
     c_edge_points::localize_edge_point(
@@ -199,10 +201,10 @@ pub extern "C" fn trufolmesca_localize_edge_point_mapped(
     lens: u32,
     point: &mut [f64],
 ) -> u32
-    ensures value { result ≡ number_of (localize_edge_point bytes.now stride (lent_scene width height (view_of camera.now lens))
+    ensures value { result ≡ number_of (localize_edge_point bytes.now stride (lent_scene width height (view_of camera.now lens)) defaults
         (lent_ray coarse_x coarse_y normal_x normal_y step inverted inward_differs)) }
     ensures point_after { point.new ≡ with_point (result_unwrap_or (localize_edge_point bytes.now stride
-        (lent_scene width height (view_of camera.now lens))
+        (lent_scene width height (view_of camera.now lens)) defaults
         (lent_ray coarse_x coarse_y normal_x normal_y step inverted inward_differs)) zero_point) point.old }
 {
     c_edge_points::localize_edge_point_mapped(
@@ -219,6 +221,51 @@ pub extern "C" fn trufolmesca_localize_edge_point_mapped(
         inward_differs,
         camera,
         lens,
+        point,
+    )
+}
+
+// An edge point under settings: `c_edge_points::localize_edge_point_with` under its name for C.
+#[unsafe(no_mangle)]
+pub extern "C" fn trufolmesca_localize_edge_point_with(
+    bytes: &[u8],
+    width: u32,
+    height: u32,
+    stride: u32,
+    coarse_x: f64,
+    coarse_y: f64,
+    normal_x: f64,
+    normal_y: f64,
+    step: f64,
+    inverted: bool,
+    inward_differs: bool,
+    camera: &[f64],
+    lens: u32,
+    settings: &[f64],
+    point: &mut [f64],
+) -> u32
+    ensures value { result ≡ number_of (localize_edge_point bytes.now stride
+        (lent_scene width height (any_view_of camera.now lens)) (settings_of settings.now)
+        (lent_ray coarse_x coarse_y normal_x normal_y step inverted inward_differs)) }
+    ensures point_after { point.new ≡ with_point (result_unwrap_or (localize_edge_point bytes.now stride
+        (lent_scene width height (any_view_of camera.now lens)) (settings_of settings.now)
+        (lent_ray coarse_x coarse_y normal_x normal_y step inverted inward_differs)) zero_point) point.old }
+{
+    c_edge_points::localize_edge_point_with(
+        bytes,
+        width,
+        height,
+        stride,
+        coarse_x,
+        coarse_y,
+        normal_x,
+        normal_y,
+        step,
+        inverted,
+        inward_differs,
+        camera,
+        lens,
+        settings,
         point,
     )
 }

@@ -1,25 +1,27 @@
 -- Points that are lent as three lists: what the fits, the residuals and the dropping of points are of the lists. Assumes nothing.
 use mathlib.Core.Path.{◌≡◌, refl, ap, sym, ◌∙◌}
-use Prim.Native.Nat.{ℕ, zero, suc, ◌-◌, ◌<◌, ◌≤◌, min}
+use Prim.Native.Nat.{ℕ, zero, suc, ◌+◌, ◌-◌, ◌≤◌, ◌<◌, min}
+use native.Mathlib.Numerals.{add-one}
 use native.Mathlib.Omega.{arith}
 use mathlib.Core.Bool.{Bool, true, false}
-use mathlib.Core.List.{List, [], ◌∷◌, map}
-use lib.ListN.{length, take}
-use lib.Seq.{length-take-le, get_or-take, ext_get_or}
+use mathlib.Core.List.{List, [], ◌∷◌, ◌++◌, map}
+use lib.ListN.{length, take, set}
+use lib.Seq.{length-take-le, take-suc-set, ext_get_or}
 use lib.Ieee.{Float, nan}
 use lib.Dec.{ltb}
 use Rattle.std.proofs.lemmas.List.{take_min}
 use Rattle.prelude.specs.Prelude.{when◌then◌else◌}
 use Rattle.std.specs.Prelude.{Ok, None}
 use Rattle.ieee.specs.Floats.{◌≼◌}
+use Rattle.consts.specs.Consts.{max_edge_points}
 use Rattle.consts.specs.declared.Settings.{Settings}
 use Rattle.pixel.specs.Pixels.{source, edge_point}
 use Rattle.pixel.specs.declared.EdgePoint.{EdgePoint}
 use Rattle.float_lists.specs.Sums.{at}
 use Rattle.line_fit.specs.LineFit.{fit_line}
+use Rattle.line_fit.specs.declared.Points.{Points as LinePoints}
 use Rattle.line.specs.declared.Line2.{Line2}
-use Rattle.line_fit.specs.declared.Points.{Points}
-use Rattle.fit.specs.Lent.{edge_points}
+use Rattle.fit.specs.Lent.{HasRoom, Paired}
 use Rattle.fit.specs.Fit.{points_of, fit_points, residual, residuals, inliers, stat, edge_fit, lined, refit, first_fit, fit_edge}
 
 -- ---- three lists of one length, element by element
@@ -88,6 +90,10 @@ first-points m n xs ys ws e =
     let q : n ≡ min m (length (points_of xs ys ws)) = omega (arith, length-points_of xs ys ws) in
     take-points n xs ys ws ∙ ap (λ (k : ℕ). take k (points_of xs ys ws)) q ∙ take_min m (points_of xs ys ws)
 
+-- the first n of a list at the front of another
+pub copied : (n : ℕ) (xs to : List Float) → n ≤ length xs → take (length (take n xs)) to ≡ take n xs → take n to ≡ take n xs
+copied n xs to h e = rw (length-take-le n xs h) at e
+
 -- ---- the inliers of the points are those of the x, y and weights
 
 inliers_alike : (most : Float) (rs : List Float) {xs ys ws : List Float} → Alike xs ys ws → Alike (inliers most rs xs) (inliers most rs ys) (inliers most rs ws)
@@ -113,45 +119,73 @@ inliers-points most (r ∷ rs) (more {x} {y} {w} {xs} {ys} {ws} a) = by (r ≼ m
     by true i = ap (λ (l : List EdgePoint). edge_point (source x y) w ∷ l) i
     by false i = i
 
+-- one more behind the others
+points-behind : {xs ys ws : List Float} (x y w : Float) → Alike xs ys ws → points_of (xs ++ x ∷ []) (ys ++ y ∷ []) (ws ++ w ∷ []) ≡ points_of xs ys ws ++ edge_point (source x y) w ∷ []
+unfolding points_of
+points-behind x y w none = refl
+points-behind x y w (more {x = a} {y = b} {w = c} h) = ap (λ (l : List EdgePoint). edge_point (source a b) c ∷ l) (points-behind x y w h)
+
 -- ---- the definitions, of points that are lent
 
-module _ (ps : Points) where
-  lent : Alike ps.xs.now ps.ys.now ps.weights.now
-  lent = alike ps.xs.now ps.ys.now ps.weights.now ps.ys_too ps.weights_too
+-- the points of a line's fit, of which there is room for as many
+pub paired : (ps : LinePoints) → length ps.xs.now ≤ max_edge_points → Paired ps.xs.now ps.ys.now ps.weights.now
+paired ps few = record { ys_too = ps.ys_too; weights_too = ps.weights_too; few = few }
 
-  pub length-edge_points : length (edge_points ps) ≡ length ps.xs.now
+module _ {xs ys ws : List Float} (lists : Paired xs ys ws) where
+  lent : Alike xs ys ws
+  lent = alike xs ys ws lists.ys_too lists.weights_too
+
+  pub length-edge_points : length (points_of xs ys ws) ≡ length xs
   length-edge_points = length-points lent
 
-  pub fit_points-lent : fit_line ps.xs.now ps.ys.now ps.weights.now ≡ fit_points (edge_points ps)
+  pub fit_points-lent : fit_line xs ys ws ≡ fit_points (points_of xs ys ws)
   unfolding fit_points
   fit_points-lent = rw ((columns lent).0, (columns lent).1, (columns lent).2)
 
-  pub residuals-are : (l : Line2) (v : List Float) → length ps.xs.now ≤ length v → ((k : ℕ) → k < length ps.xs.now → at v k ≡ residual l (source (at ps.xs.now k) (at ps.ys.now k))) →
-      take (length ps.xs.now) v ≡ residuals l (edge_points ps)
+  pub residuals-are : (l : Line2) (v : List Float) → length v ≡ length xs → ((k : ℕ) → k < length xs → at v k ≡ residual l (source (at xs k) (at ys k))) →
+      v ≡ residuals l (points_of xs ys ws)
   residuals-are l v n inv =
-      let m = length-take-le (length ps.xs.now) v n in
-      ext_get_or nan (take (length ps.xs.now) v) (residuals l (edge_points ps))
-      (m ∙ sym (length-residuals l (edge_points ps) ∙ length-edge_points))
-      (λ i q. get_or-take (length ps.xs.now) v i nan (omega arith) ∙ inv i (omega arith) ∙ sym (residual-at l i lent (omega arith)))
+      ext_get_or nan v (residuals l (points_of xs ys ws))
+      (n ∙ sym (length-residuals l (points_of xs ys ws) ∙ length-edge_points))
+      (λ i q. inv i (omega arith) ∙ sym (residual-at l i lent (omega arith)))
+
+  -- the lists of what stays are those of the points that stay
+  module _ (most : Float) (rs : List Float) {a b d : List Float} (p : a ≡ inliers most rs xs) (q : b ≡ inliers most rs ys) (r : d ≡ inliers most rs ws) where
+    pub kept_alike : (length b ≡ length a) × (length d ≡ length a)
+    kept_alike = rw (p, q, r) (same_lengths (inliers_alike most rs lent))
+
+    pub kept-points : points_of a b d ≡ inliers most rs (points_of xs ys ws)
+    kept-points = rw (p, q, r) (inliers-points most rs lent)
 
   module _ (s : Settings) (probed : ℕ) where
-    pub refit-lent : (all : ℕ) → refit s probed all (edge_points ps)
-        ≡ (when ltb (length ps.xs.now) s.min_edge_points then Ok (edge_fit None (stat probed (length ps.xs.now) (all - length ps.xs.now) false)) else
-        lined (stat probed (length ps.xs.now) (all - length ps.xs.now) true) (fit_line ps.xs.now ps.ys.now ps.weights.now))
+    pub refit-lent : (all : ℕ) → refit s probed all (points_of xs ys ws)
+        ≡ (when ltb (length xs) s.min_edge_points then Ok (edge_fit None (stat probed (length xs) (all - length xs) false)) else
+        lined (stat probed (length xs) (all - length xs) true) (fit_line xs ys ws))
     unfolding refit
     refit-lent all = rw (length-edge_points, ← fit_points-lent)
 
-    pub edge-lent : (m : Float) → fit_edge s probed m (edge_points ps)
-        ≡ (when ltb (length ps.xs.now) s.min_edge_points then Ok (edge_fit None (stat probed 0 0 false)) else
-        first_fit s probed m (edge_points ps) (fit_line ps.xs.now ps.ys.now ps.weights.now))
+    pub edge-lent : (m : Float) → fit_edge s probed m (points_of xs ys ws)
+        ≡ (when ltb (length xs) s.min_edge_points then Ok (edge_fit None (stat probed 0 0 false)) else
+        first_fit s probed m (points_of xs ys ws) (fit_line xs ys ws))
     unfolding fit_edge
     edge-lent m = rw (length-edge_points, ← fit_points-lent)
 
--- ---- what the arrays hold, in place of the lists that they hold
+-- ---- the points in a room of lists, of which each holds n
 
-module _ (most : Float) (rs : List Float) (ps : Points) (a b d : List Float) (p : a ≡ inliers most rs ps.xs.now) (q : b ≡ inliers most rs ps.ys.now) (r : d ≡ inliers most rs ps.weights.now) where
-  pub kept_alike : (length b ≡ length a) × (length d ≡ length a)
-  kept_alike = rw (p, q, r) (same_lengths (inliers_alike most rs (lent ps)))
+module _ (n : ℕ) (xs ys ws rs : List Float) (room : HasRoom n xs ys ws rs) where
+  front : Alike (take n xs) (take n ys) (take n ws)
+  front =
+      let of_x = length-take-le n xs (omega (arith, room.few, room.xs_room)) in
+      let of_y = length-take-le n ys (omega (arith, room.few, room.ys_room)) in
+      let of_w = length-take-le n ws (omega (arith, room.few, room.weights_room)) in
+      alike (take n xs) (take n ys) (take n ws) (of_y ∙ sym of_x) (of_w ∙ sym of_x)
 
-  pub kept-points : points_of a b d ≡ inliers most rs (edge_points ps)
-  kept-points = rw (p, q, r) (inliers-points most rs (lent ps))
+  pub length-held : length (points_of (take n xs) (take n ys) (take n ws)) ≡ n
+  length-held = length-points front ∙ length-take-le n xs (omega (arith, room.few, room.xs_room))
+
+  -- a point is put behind them
+  pub one_more : (x y w : Float) → n < max_edge_points →
+      points_of (take (n + 1) (set xs n x)) (take (n + 1) (set ys n y)) (take (n + 1) (set ws n w)) ≡ points_of (take n xs) (take n ys) (take n ws) ++ edge_point (source x y) w ∷ []
+  one_more x y w h =
+      rw (add-one n, take-suc-set xs n x (omega (arith, room.xs_room)), take-suc-set ys n y (omega (arith, room.ys_room)), take-suc-set ws n w (omega (arith, room.weights_room)))
+      (points-behind x y w front)

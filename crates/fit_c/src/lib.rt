@@ -7,9 +7,10 @@ ghost use Rattle.c_buffers.specs.Buffers.{with_line};
 ghost use Rattle.c_answers.specs.Answers.{with_stat};
 ghost use Rattle.fit_c.specs.Edge.{edge_of, line_written, written};
 
-use fit::EdgeFit;
+use consts::MAX_EDGE_POINTS;
+use fit::{EdgeFit, EdgePoints};
 
-// `fit::fit_edge` for C, under the default settings: three lists, as C lends them. The line goes to one buffer, and
+// `EdgePoints::fit_edge` for C, under the default settings: three lists, as C lends them. The line goes to one buffer, and
 // probed, fit, dropped and valid to another.
 #[unsafe(no_mangle)]
 pub extern "C" fn fit_edge(
@@ -27,7 +28,13 @@ pub extern "C" fn fit_edge(
     ensures counts_after { counts.new
         ≡ with_stat 0 (written (edge_of xs.now ys.now weights.now probed module_px)).stat counts.old }
 {
-    let returned = fit::fit_edge(consts::defaults(), xs, ys, weights, probed, module_px);
+    let mut all_xs = [0.0; MAX_EDGE_POINTS];
+    let mut all_ys = [0.0; MAX_EDGE_POINTS];
+    let mut all_weights = [0.0; MAX_EDGE_POINTS];
+    let mut residuals = [0.0; MAX_EDGE_POINTS];
+    let mut points = EdgePoints::none(&mut all_xs, &mut all_ys, &mut all_weights, &mut residuals);
+    points.set(xs, ys, weights);
+    let returned = points.fit_edge(consts::defaults(), probed, module_px);
     let fit = returned.unwrap_or(EdgeFit {
         line: None,
         stat: edges::no_stat(),

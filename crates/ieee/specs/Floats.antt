@@ -61,6 +61,12 @@ f½ = of_bits binary64 0x3fe0_0000_0000_0000
 abbrev pub f1_5 : Float
 f1_5 = of_bits binary64 0x3ff8_0000_0000_0000
 
+abbrev pub f10 : Float
+f10 = of_bits binary64 0x4024_0000_0000_0000
+
+abbrev pub f100 : Float
+f100 = of_bits binary64 0x4059_0000_0000_0000
+
 abbrev pub f0_15 : Float
 f0_15 = of_bits binary64 0x3fc3_3333_3333_3333
 

@@ -4,11 +4,11 @@ use native.Mathlib.Omega.{arith}
 use Rattle.std.specs.Prelude.{◌-◌, List, [], ◌∷◌, get_or}
 use Rattle.number.specs.Numbers.{number}
 use Rattle.number.specs.declared.Refusal.{Refusal}
-use Rattle.number.specs.declared.Refusal.TheVariants.{Size, Photograph, Grid, Scale, Corner, Lens, Sheet, Quad, Thin, Line, Overflow, Card, Points, Pairing, Finite, Weight, Outside, Parallel, Profile, Place, Window, Room, Form, Count}
+use Rattle.number.specs.declared.Refusal.TheVariants.{Size, Photograph, Grid, Scale, Corner, Lens, Sheet, Quad, Thin, Line, Overflow, Card, Points, Pairing, Finite, Weight, Outside, Parallel, Profile, Place, Window, Room, Form, Count, Settings}
 
 -- the refusals in the order of their numbers
 all : List Refusal
-all = Size ∷ Photograph ∷ Grid ∷ Scale ∷ Corner ∷ Lens ∷ Sheet ∷ Quad ∷ Thin ∷ Line ∷ Overflow ∷ Card ∷ Points ∷ Pairing ∷ Finite ∷ Weight ∷ Outside ∷ Parallel ∷ Profile ∷ Place ∷ Window ∷ Room ∷ Form ∷ Count ∷ []
+all = Size ∷ Photograph ∷ Grid ∷ Scale ∷ Corner ∷ Lens ∷ Sheet ∷ Quad ∷ Thin ∷ Line ∷ Overflow ∷ Card ∷ Points ∷ Pairing ∷ Finite ∷ Weight ∷ Outside ∷ Parallel ∷ Profile ∷ Place ∷ Window ∷ Room ∷ Form ∷ Count ∷ Settings ∷ []
 
 -- the refusal of a number; where there is none, some refusal
 refusal_of : ℕ → Refusal
@@ -40,6 +40,7 @@ back Window = refl
 back Room = refl
 back Form = refl
 back Count = refl
+back Settings = refl
 
 -- no refusal has the number of an answer
 pub number_positive : (r : Refusal) → 0 < number r
@@ -67,6 +68,7 @@ number_positive Window = omega arith
 number_positive Room = omega arith
 number_positive Form = omega arith
 number_positive Count = omega arith
+number_positive Settings = omega arith
 
 -- two refusals of one number are the same
 pub number_tells : (r s : Refusal) → number r ≡ number s → r ≡ s

@@ -2,7 +2,7 @@
 -- Definitions only, to be believed.
 use Rattle.std.specs.Prelude.{ℕ, Result, Ok, Err}
 use Rattle.number.specs.declared.Refusal.{Refusal}
-use Rattle.number.specs.declared.Refusal.TheVariants.{Size, Photograph, Grid, Scale, Corner, Lens, Sheet, Quad, Thin, Line, Overflow, Card, Points, Pairing, Finite, Weight, Outside, Parallel, Profile, Place, Window, Room, Form, Count}
+use Rattle.number.specs.declared.Refusal.TheVariants.{Size, Photograph, Grid, Scale, Corner, Lens, Sheet, Quad, Thin, Line, Overflow, Card, Points, Pairing, Finite, Weight, Outside, Parallel, Profile, Place, Window, Room, Form, Count, Settings}
 
 abbrev pub answer : ℕ
 answer = 0
@@ -56,6 +56,8 @@ number Room = 22
 number Form = 23
 -- a count is above 255, the largest of an older result card
 number Count = 24
+-- a setting is out of its range or not finite
+number Settings = 25
 
 -- what a call returns has a number: 0 where it is an answer, and else that of its refusal
 abbrev pub number_of : {A : Type 0} → Result A Refusal → ℕ

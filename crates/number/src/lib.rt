@@ -59,6 +59,8 @@ pub enum Refusal {
     Form,
     // A count is above 255, the largest of an older result card.
     Count,
+    // A setting is out of its range or not finite.
+    Settings,
 }
 
 // The number of a refusal.
@@ -91,6 +93,7 @@ impl From<Refusal> for u32 {
             Refusal::Room => 22,
             Refusal::Form => 23,
             Refusal::Count => 24,
+            Refusal::Settings => 25,
         }
     }
 }

@@ -1,5 +1,5 @@
 -- Ordered checks: nothing is refused exactly where all pass, and more checks behind count where those before pass. By induction on the list. Assumes nothing.
-use mathlib.Core.Path.{◌≡◌, refl, sym, ◌∙◌}
+use mathlib.Core.Path.{◌≡◌, refl, sym, subst, ◌∙◌}
 use mathlib.Core.Logic.{◌↔◌}
 use mathlib.Core.Bool.{Bool, true, false, ◌&&◌, true≢false}
 use mathlib.Core.List.{List, [], ◌∷◌, ◌++◌}
@@ -7,7 +7,8 @@ use Rattle.std.specs.Prelude.{Result, Ok, Err}
 use Rattle.std.specs.Result.{result_and}
 use Rattle.prelude.specs.Prelude.{when◌then◌else◌}
 use Rattle.prelude.specs.Checks.{Check, first, all_pass}
-use Rattle.prelude.proofs.Results.{err_not-ok}
+use Rattle.prelude.proofs.Lists.{Each}
+use Rattle.prelude.proofs.Results.{err_not-ok, err_of, ok_not-err}
 
 -- ---- nothing is refused exactly where all pass
 
@@ -56,3 +57,12 @@ all_ok cs ds h = go (first cs) (first ds) (sym (behind cs ds) ∙ h)
     go : {E : Type 0} (a b : Result (Unit {0}) E) → result_and a b ≡ Ok tt → (a ≡ Ok tt) × (b ≡ Ok tt)
     go (Ok x) b h = (refl, h)
     go (Err e) b h = absurd (err_not-ok h)
+
+-- what is refused is refused by one of them
+pub refused_by : {E : Type 0} (P : E → Type 0) (cs : List (Check E)) → Each (λ (c : Check E). P c.refusal) cs → (e : E) → first cs ≡ Err e → P e
+refused_by P [] all e h = absurd (ok_not-err h)
+refused_by {E} P (c ∷ cs) all e h = go c.passes h (refused_by P cs all.1 e)
+  where
+    go : (b : Bool) → (when b then first cs else Err c.refusal) ≡ Err e → (first cs ≡ Err e → P e) → P e
+    go true k rest = rest k
+    go false k rest = subst P (err_of k) all.0

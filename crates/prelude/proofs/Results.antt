@@ -12,3 +12,11 @@ ok_not-err h = true≢false (ap is_ok h)
 
 pub ok_of : {A E : Type 0} {a b : A} → ◌≡◌ {A = Result A E} (Ok a) (Ok b) → a ≡ b
 ok_of {a = a} h = ap (λ r. result_unwrap_or r a) h
+
+error_or : {A E : Type 0} → E → Result A E → E
+error_or d (Ok a) = d
+error_or d (Err e) = e
+
+pub err_of : {A E : Type 0} {e f : E} → ◌≡◌ {A = Result A E} (Err e) (Err f) → e ≡ f
+unfolding error_or
+err_of {e = e} h = ap (error_or e) h

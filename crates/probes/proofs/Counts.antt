@@ -1,14 +1,18 @@
--- How many probes an edge has: no more than the settings allow, nor than an array has room for. Candidates beyond that are decimated, and what is
+-- How many probes an edge has: no more than the settings allow, nor than there is room for points. Candidates beyond that are decimated, and what is
 -- left is cut at the limit. Assumes nothing.
 use Prim.Native.Nat.{ℕ, ◌≤◌, min}
+use mathlib.Core.Path.{◌≡◌}
+use mathlib.Core.Bool.{true}
 use mathlib.Core.List.{List}
-use native.Mathlib.Nat.{min-le_left, min-le_right}
+use native.Mathlib.Omega.{arith}
+use native.Mathlib.Nat.{min-le_left}
 use borrow.Author.Tests.{ltb-false}
 use lib.Dec.{ltb}
 use lib.ListN.{length, length-take}
 use Rattle.prelude.proofs.Branches.{by_test}
-use Rattle.consts.specs.Consts.{max_edge_points}
+use Rattle.consts.specs.Consts.{good_settings, max_edge_points}
 use Rattle.consts.specs.declared.Settings.{Settings}
+use Rattle.consts.proofs.Ranges.{taken}
 use Rattle.probes.specs.declared.Probe.{Probe}
 use Rattle.grid.specs.Grids.{Grid}
 use Rattle.probes.specs.Probes.{decimated, probes_of}
@@ -20,10 +24,11 @@ few-decimated most ps = by_test (ltb most (length ps))
 
 -- the most probes that an edge can have
 abbrev pub probe_limit : Settings → ℕ
-probe_limit s = min s.max_points_per_edge max_edge_points
+probe_limit settings = min settings.max_points_per_edge max_edge_points
 
-pub limit_in_room : (s : Settings) → probe_limit s ≤ max_edge_points
-limit_in_room s = min-le_right s.max_points_per_edge max_edge_points
+-- by settings that are taken the limit is the setting itself: the room cuts nothing
+pub limit_kept : (settings : Settings) → good_settings settings ≡ true → probe_limit settings ≡ settings.max_points_per_edge
+limit_kept settings good = omega (arith, (taken settings good).limit)
 
-pub few-probes : (s : Settings) (g : Grid) (e : ℕ) → length (probes_of s g e) ≤ probe_limit s
-few-probes s g e = few-decimated _ _
+pub few-probes : (settings : Settings) (g : Grid) (e : ℕ) → length (probes_of settings g e) ≤ probe_limit settings
+few-probes settings g e = few-decimated _ _

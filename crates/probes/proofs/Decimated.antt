@@ -1,11 +1,11 @@
--- Every k-th of a list, while there is room. Behind one that is taken k - 1 are passed over, and what is left is decimated like the whole; so those
--- taken can be stored one by one, until none is left or there is no room. Assumes nothing.
+-- Every k-th of a list, up to a limit. Behind one that is taken k - 1 are passed over, and what is left is decimated like the whole; so those
+-- taken can be sought one by one, until none is left or the limit is reached. Assumes nothing.
 use mathlib.Core.Path.{◌≡◌, refl, sym, ap, ◌∙◌}
-use Prim.Native.Nat.{ℕ, zero, suc, ◌+◌, ◌*◌, ◌-◌, ◌/◌, ◌%◌, ◌≤◌, ◌<◌, min}
-use native.Mathlib.Nat.{suc-add, sub-zero, zero-mod, mod-one, mod-eq_of_lt, add-mod_right, le-div_iff_mul-le}
+use Prim.Native.Nat.{ℕ, zero, suc, ◌+◌, ◌-◌, ◌/◌, ◌%◌, ◌≤◌, ◌<◌, min}
+use native.Mathlib.Nat.{suc-add, zero-mod, mod-one, mod-eq_of_lt, add-mod_right, le-div_iff_mul-le}
 use native.Mathlib.Omega.{arith}
-use mathlib.Core.List.{List, [], ◌∷◌, ◌++◌, append_assoc, append-nil}
-use lib.ListN.{length, length-append, take, drop}
+use mathlib.Core.List.{List, [], ◌∷◌}
+use lib.ListN.{length, take, drop}
 use lib.Seq.{take_all, take-nil}
 use borrow.Author.Tests.{lt-ltb, le-ltb, ne_eqb}
 use Rattle.consts.specs.Consts.{max_edge_points}
@@ -13,7 +13,7 @@ use Rattle.consts.specs.declared.Settings.{Settings}
 use Rattle.grid.specs.declared.LabelEdge.{LabelEdge}
 use Rattle.grid.specs.Grids.{Grid}
 use Rattle.probes.specs.Probes.{every_from, decimated, candidates}
-use Rattle.probes.specs.Places.{probe_at, onward, Counted, Thins, Sought, Picked}
+use Rattle.probes.specs.Places.{probe_at, onward, coming, Counted, Thins, Sought}
 use Rattle.probes.specs.declared.Probe.{Probe}
 use Rattle.probes.proofs.Candidates.{onward-all}
 
@@ -70,43 +70,31 @@ thins_many n most l p = record { some = (le-div_iff_mul-le p).1 (omega arith); r
         let some : most < length ps = omega arith in
         rw (lt-ltb most (length ps) some, h)
 
--- ---- the store
+-- ---- the probes that are still to come
 
-module _ (s : Settings) (g : Grid) (e : LabelEdge) (k most : ℕ) where
-  -- so many are taken, and what is due of the candidates from place j on, behind `skip`, fills the rest
-  pub record Filled (n j skip : ℕ) (ps : List Probe) : Type 0 where
-    pub count : length ps ≡ n
-    pub within : j ≤ 2 * g.dim
-    pub taken : ps ++ take (most - n) (every_from k 0 (drop skip (onward s g e j))) ≡ take most (every_from k 0 (candidates s g e))
+module _ (s : Settings) (g : Grid) (e : LabelEdge) (k : ℕ) where
+  -- from the start on they are every k-th candidate
+  coming-all : (most : ℕ) → coming s g e k 0 0 most ≡ take most (every_from k 0 (candidates s g e))
+  coming-all most = ap (λ (l : List Probe). take most (every_from k 0 l)) (onward-all s g e)
 
-  pub filled_none : Filled 0 0 0 []
-  filled_none = record { count = refl; within = omega arith; taken = rw sub-zero (ap (λ (l : List Probe). take most (every_from k 0 l)) (onward-all s g e)) }
-
-  -- the next candidate is taken
-  pub filled_more : {n j skip at : ℕ} {ps : List Probe} {p : Probe} → Filled n j skip ps → n < most → 0 < k → Sought s g e j skip at → p ≡ probe_at s g e at
-      → Filled (n + 1) (at + 1) (k - 1) (ps ++ p ∷ [])
-  filled_more {n} {j} {skip} {at} {ps} {p} had l some here is =
-      let found : drop skip (onward s g e j) ≡ p ∷ onward s g e (at + 1) = rw is here.left in
-      let one : most - n ≡ suc (most - (n + 1)) = omega arith in
-      let due = every_from k 0 (drop (k - 1) (onward s g e (at + 1))) in
-      record {
-        count = omega (arith, length-append ps (p ∷ []), had.count);
-        within = omega (arith, here.inside);
-        taken = append_assoc ps (p ∷ []) (take (most - (n + 1)) due)
-            ∙ ap (λ (m : ℕ). ps ++ take m (p ∷ due)) (sym one)
-            ∙ ap (λ (l : List Probe). ps ++ take (most - n) l) (sym (ap (every_from k 0) found ∙ every_next k p (onward s g e (at + 1)) some))
-            ∙ had.taken;
-      }
+  -- the next candidate is the first of them, and the others come behind it
+  pub coming-next : {at skip left there : ℕ} {p : Probe} → 0 < left → 0 < k → Sought s g e at skip there → p ≡ probe_at s g e there
+      → coming s g e k at skip left ≡ p ∷ coming s g e k (there + 1) (k - 1) (left - 1)
+  coming-next {at} {skip} {left} {there} {p} some step here is =
+      let found : drop skip (onward s g e at) ≡ p ∷ onward s g e (there + 1) = rw is here.left in
+      let one : left ≡ suc (left - 1) = omega arith in
+      ap (take left) (ap (every_from k 0) found ∙ every_next k p (onward s g e (there + 1)) step)
+      ∙ ap (λ (n : ℕ). take n (p ∷ every_from k 0 (drop (k - 1) (onward s g e (there + 1))))) one
 
   -- no candidate is left
-  pub picked_all : {n j skip : ℕ} {ps : List Probe} → Filled n j skip ps → drop skip (onward s g e j) ≡ [] → Picked s g e k most ps
+  pub coming-none : (at skip left : ℕ) → drop skip (onward s g e at) ≡ [] → coming s g e k at skip left ≡ []
   unfolding every_from
-  picked_all {n} {j} {skip} {ps} had none = sym (append-nil ps) ∙ ap (λ (l : List Probe). ps ++ l) (sym (rw none (take-nil (most - n)))) ∙ had.taken
+  coming-none at skip left none = rw none (take-nil left)
 
 -- ---- the selection
 
--- the candidates are counted, the decimation is theirs, and every k-th is picked
-pub selected : (s : Settings) (g : Grid) (e : LabelEdge) (n most k : ℕ) {r : List Probe} → most ≡ min s.max_points_per_edge max_edge_points → Counted s g e n → Thins n most k → Picked s g e k most r
-    → r ≡ decimated (min s.max_points_per_edge max_edge_points) (candidates s g e)
-selected s g e n most k h counted thins picked =
-    picked ∙ thins.right (candidates s g e) (sym counted.all) ∙ ap (λ (l : ℕ). decimated l (candidates s g e)) h
+-- the candidates are counted, the decimation is theirs, and every k-th is to come
+pub selected : (s : Settings) (g : Grid) (e : LabelEdge) (n most k : ℕ) → most ≡ min s.max_points_per_edge max_edge_points → Counted s g e n → Thins n most k
+    → coming s g e k 0 0 most ≡ decimated (min s.max_points_per_edge max_edge_points) (candidates s g e)
+selected s g e n most k h counted thins =
+    coming-all s g e k most ∙ thins.right (candidates s g e) (sym counted.all) ∙ ap (λ (l : ℕ). decimated l (candidates s g e)) h

@@ -56,6 +56,6 @@ pub record Sought (s : Settings) (g : Grid) (e : LabelEdge) (from skip j : ℕ) 
   pub inside : j < 2 * g.dim
   pub left : drop skip (onward s g e from) ≡ probe_at s g e j ∷ onward s g e (j + 1)
 
--- every k-th candidate, up to `most`
-abbrev pub Picked : Settings → Grid → LabelEdge → (k most : ℕ) → List Probe → Type 0
-Picked s g e k most r = r ≡ take most (every_from k 0 (candidates s g e))
+-- every k-th of the candidates from a place on, behind `skip` of them, and `left` at most
+abbrev pub coming : Settings → Grid → LabelEdge → (k at skip left : ℕ) → List Probe
+coming s g e k at skip left = take left (every_from k 0 (drop skip (onward s g e at)))

@@ -2,15 +2,16 @@
 #![tactic(auto)]
 
 ghost use Rattle.std.specs.Prelude.{◌≡◌, ◌+◌, ◌-◌, ◌*◌, ◌≤◌, ◌<◌, [], drop, IfSome, IfNone};
+ghost use Rattle.std.specs.Iterator.{YieldsFirst, item_count};
 ghost use Rattle.consts.specs.Consts.{max_edge_points};
 ghost use Rattle.grid.specs.Grids.{grid_of};
 ghost use Rattle.probes.specs.Layouts.{dark_at, start_of, stride_of};
 ghost use Rattle.probes.specs.Probes.{near_end, probes_of};
-ghost use Rattle.probes.specs.Places.{fraction_at, probe_at, is_candidate, onward, Counted, Thins, Sought, Picked};
+ghost use Rattle.probes.specs.Places.{fraction_at, probe_at, is_candidate, onward, Counted, Thins, Sought};
 
-use arrayvec::ArrayVec;
 use consts::{MAX_EDGE_POINTS, Settings};
 use grid::LabelEdge;
+use std::marker::Model;
 
 // A probe of an edge: how far along it, from 0 to 1, and whether the module behind it is light.
 #[derive(Clone, Copy, Default)]
@@ -135,7 +136,7 @@ impl<'a> Edge<'a> {
 
     // ---- the two passes
 
-    // Module by module, since the two places of one share its darkness.
+    // How many candidates there are. Module by module, since the two places of one share its darkness.
     fn count_candidates(&self) -> usize
         ensures { Counted self.now.settings (grid_of self.now.dim self.now.modules.now) self.now.edge
             result }
@@ -168,26 +169,6 @@ impl<'a> Edge<'a> {
         }
         None
     }
-
-    // Every k-th candidate, while there is room.
-    fn select(&self, k: usize, most: usize) -> ArrayVec<Probe, MAX_EDGE_POINTS>
-        requires { (0 < k) × (most ≤ max_edge_points) }
-        ensures { Picked self.now.settings (grid_of self.now.dim self.now.modules.now) self.now.edge k
-            most result.items }
-    {
-        let mut probes = ArrayVec::new();
-        let mut j: usize = 0;
-        let mut skip: usize = 0;
-        for _ in 0..most {
-            let Some(at) = self.next_candidate(j, skip) else {
-                break;
-            };
-            probes.push(self.probe_at(at));
-            j = at + 1;
-            skip = k - 1;
-        }
-        probes
-    }
 }
 
 // Every how many-th of n candidates is a probe, where there is room for `most`.
@@ -202,19 +183,68 @@ fn decimation(n: usize, most: usize) -> usize
     }
 }
 
+// ---- the probes
+
+// The probes of an edge that are still to come: of its candidates from place `at` on every k-th, behind `skip` that are
+// passed over, and `left` at most. They are sought as they are asked for, so that no list of them is kept.
+#[derive(Drop)]
+pub struct Probes<'a> {
+    side: Edge<'a>,
+    k: usize,
+    at: usize,
+    skip: usize,
+    left: usize,
+}
+
+impl<'a> Model for Probes<'a> {
+    ghost use Rattle.std.specs.Prelude.{List, ◌<◌, ◌≤◌, ◌*◌};
+    ghost use Rattle.probes.specs.declared.Probe.{Probe as Item};
+
+    ghost Value = { List Item };
+
+    ghost use Rattle.grid.specs.Grids.{grid_of};
+    ghost use Rattle.probes.specs.Places.{coming};
+
+    ghost view = { λ p. coming p.side.settings (grid_of p.side.dim p.side.modules.now) p.side.edge p.k p.at p.skip p.left };
+
+    ghost invariant = { λ p. (0 < p.k) × (p.at ≤ 2 * p.side.dim) };
+}
+
+impl<'a> Iterator for Probes<'a> {
+    type Item = Probe;
+
+    ghost next_gives = { YieldsFirst (λ s. s) };
+
+    ghost remaining = { item_count (λ s. s) };
+
+    fn next(&mut self) -> Option<Probe> {
+        if self.left == 0 {
+            return None;
+        }
+        let Some(at) = self.side.next_candidate(self.at, self.skip) else {
+            self.left = 0;
+            return None;
+        };
+        self.at = at + 1;
+        self.skip = self.k - 1;
+        self.left -= 1;
+        Some(self.side.probe_at(at))
+    }
+}
+
 // The probes of the edge of a number: its candidates, decimated evenly to the limit. A number, since callers may pass
-// any: past 2 it is the left one. A call of its own, since what it moves would lie on the caller's stack.
-#[inline(never)]
-pub fn probes_of(
-    settings: Settings,
-    modules: &[u8],
-    dim: u32,
-    edge: u32,
-) -> ArrayVec<Probe, MAX_EDGE_POINTS>
-    ensures { result.items ≡ probes_of settings (grid_of dim modules.now) edge }
+// any: past 2 it is the left one.
+pub fn probes_of(settings: Settings, modules: &[u8], dim: u32, edge: u32) -> Probes<'_>
+    ensures { result ≡ probes_of settings (grid_of dim modules.now) edge }
 {
     let most = (settings.max_points_per_edge as usize).min(MAX_EDGE_POINTS);
     let side = Edge::new(settings, modules, dim, LabelEdge::from(edge));
     let n = side.count_candidates();
-    side.select(decimation(n, most), most)
+    Probes {
+        side,
+        k: decimation(n, most),
+        at: 0,
+        skip: 0,
+        left: most,
+    }
 }

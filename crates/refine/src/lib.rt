@@ -6,7 +6,9 @@ ghost use Rattle.sample_tree.specs.Samplers.{Samples};
 ghost use Rattle.request.specs.Requests.{lent, plain};
 ghost use Rattle.refine.specs.Refine.{plan_of, refine, refinement};
 
+use consts::MAX_EDGE_POINTS;
 use corners::Answer;
+use fit::EdgePoints;
 use photograph::Photograph;
 use probe::Plan;
 use request::Request;
@@ -56,11 +58,17 @@ fn plan_of(request: Request) -> Plan
     }
 }
 
-// The rounds behind the entry checks. Bytes behind the label's own modules are not lent to them.
+// The rounds behind the entry checks. Bytes behind the label's own modules are not lent to them. The room for an edge's
+// points is made here, once for all edges of all rounds.
 pub fn refine_entered(sampler: &mut Sampler, modules: &[u8], request: Request) -> Answer
     ensures { Samples sampler.old sampler.new (refinement request modules.now) result }
 {
     let n = own_modules(request.dim, modules.len());
     let q = request::source_corners(request);
-    rounds::refine_rounds(sampler, plan_of(request), &modules[..n], q)
+    let mut xs = [0.0; MAX_EDGE_POINTS];
+    let mut ys = [0.0; MAX_EDGE_POINTS];
+    let mut weights = [0.0; MAX_EDGE_POINTS];
+    let mut residuals = [0.0; MAX_EDGE_POINTS];
+    let mut found = EdgePoints::none(&mut xs, &mut ys, &mut weights, &mut residuals);
+    rounds::refine_rounds(sampler, &mut found, plan_of(request), &modules[..n], q)
 }

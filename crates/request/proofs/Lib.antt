@@ -1,2 +1,3 @@
 -- What belongs to no one function of `request`.
 pub mod Checks
+pub mod Defaults

@@ -7,6 +7,7 @@ use Rattle.number.specs.declared.Refusal.{Refusal}
 use Rattle.number.specs.declared.Refusal.TheVariants as refusal
 use Rattle.ieee.specs.Parts.{is_finite, magnitude}
 use Rattle.ieee.specs.Floats.{◌≺◌, f0, f2^20}
+use Rattle.consts.specs.Consts.{good_settings}
 use Rattle.pixel.specs.Pixels.{to_source}
 use Rattle.pixel.specs.declared.SourcePixel.{SourcePixel}
 use Rattle.photograph.specs.Photographs.{Photo, photo, photograph_checks}
@@ -69,6 +70,7 @@ entry_checks r ms p =
     ∷ check refusal.Scale (good_scale r.sx && good_scale r.sy)
     ∷ check refusal.Corner (all_within_bounds (source_corners r))
     ∷ check refusal.Lens (good_view r.view)
+    ∷ check refusal.Settings (good_settings r.settings)
     ∷ []
 
 abbrev pub entry : Request → List ℕ → Photograph → Result (Unit {0}) Refusal

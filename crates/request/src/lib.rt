@@ -1,5 +1,5 @@
 // refine.rs, what `refine_corners` and `refine_corners_mapped` are asked: the request, the division of its corners, and
-// the entry checks, by `Size` to `Lens`.
+// the entry checks, by `Size` to `Lens` and by `Settings`.
 #![tactic(auto)]
 
 ghost use Rattle.std.specs.Prelude.{◌≡◌, ◌*◌, ◌&&◌};
@@ -105,6 +105,9 @@ pub fn entry(photograph: Photograph, modules: &[u8], request: Request) -> Result
     }
     if !footprint::good_view(request.view) {
         return Err(Refusal::Lens);
+    }
+    if !consts::good_settings(request.settings) {
+        return Err(Refusal::Settings);
     }
     Ok(())
 }

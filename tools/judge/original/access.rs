@@ -6,6 +6,7 @@ use std::cell::Cell;
 use std::panic::{catch_unwind, AssertUnwindSafe};
 
 pub use crate::bitmatrix::BitMatrix;
+pub use crate::settings;
 pub use qr_lab_geometry as geometry;
 pub use qr_lab_image as image;
 
@@ -157,7 +158,7 @@ impl Input<'_> {
         let source = self.source_view();
         let mut start = self.source_corners();
         let mut ends = Vec::new();
-        for _ in 0..REFINE_ROUNDS {
+        for _ in 0..settings::of_run().rounds {
             let run = numbered(|| refine_round(&|x, y| source.sample(x, y), &start, self.bits, self.inverted));
             let given = match run {
                 Ok(Some(refined)) => outcome(&refined),

@@ -5,6 +5,7 @@ mod consts;
 pub mod refine;
 pub mod refusal;
 mod sample;
+pub mod settings;
 
 use qr_lab_image::LumaView;
 

@@ -18,9 +18,13 @@ fn floats(numbers: &[f64]) -> Vec<u8> {
     numbers.iter().flat_map(|x| x.to_le_bytes()).collect()
 }
 
-/// The card that asks for a job, where one of so many bytes for photograph and grid can: sizes have two bytes there and dim one.
+/// The card that asks for a job, where one of so many bytes for photograph and grid can: sizes have two bytes there and dim one, and
+/// settings have no field.
 pub fn card(job: &Job, most: usize) -> Option<Vec<u8>> {
     let size = [job.width, job.height, job.stride];
+    if job.settings.is_some() {
+        return None;
+    }
     if size.iter().any(|&n| n > 65535) || job.dim > 255 || job.bytes.len() + job.modules.len() > most {
         return None;
     }
@@ -95,6 +99,7 @@ fn job(card: &[u8]) -> Job {
                 _ => Lens::None,
             },
         }),
+        settings: None,
     }
 }
 

@@ -4,11 +4,12 @@ use crate::families;
 use crate::job::Job;
 use crate::oracle::{self, Outcome, Seen};
 use crate::port;
+use crate::settings;
 use std::collections::BTreeMap;
 
 /// What differs between the Rust and the port on a job, if anything.
 fn difference(job: &Job, seen: &Seen) -> Option<String> {
-    let got = port::refine(job)?;
+    let got = port::call(job)?;
     if !agree(&seen.outcome, &got) {
         return Some(format!("the call\n  Rust: {}\n  port: {}", show(&seen.outcome), show(&got)));
     }
@@ -39,13 +40,17 @@ fn marking(job: &Job, seen: &Seen) -> Option<String> {
     const OLD: u8 = 0xa5;
     let area = if seen.outcome.number == 1 { 64 } else { job.area() };
     let (mut sheet, mut copy) = (vec![OLD; area + 3], vec![OLD; area + 5]);
-    let got = port::refine_marking(job, &mut sheet, &mut copy)?;
+    let got = port::call_marking(job, &mut sheet, &mut copy)?;
     if !agree(&seen.outcome, &got) {
         return Some(format!("the marking call\n  Rust: {}\n  port: {}", show(&seen.outcome), show(&got)));
     }
-    if (1..=7).contains(&got.number) {
-        let untouched = sheet.iter().chain(&copy).all(|&b| b == OLD);
-        return (!untouched).then(|| "a refusal by 1 to 6 wrote on sheet or copy".to_string());
+    if (1..=6).contains(&got.number) || got.number == 25 {
+        if sheet.iter().chain(&copy).any(|&b| b != OLD) {
+            return Some(format!("a refusal by {} wrote on sheet or copy", got.number));
+        }
+        // It comes before 7.
+        let short = port::call_marking(job, &mut [], &mut [])?;
+        return (!agree(&got, &short)).then(|| format!("without sheet and copy: {}", show(&short)));
     }
     if sheet[area..].iter().chain(&copy[area..]).any(|&b| b != OLD) {
         return Some("bytes past width x height were written".to_string());
@@ -60,18 +65,18 @@ fn marking(job: &Job, seen: &Seen) -> Option<String> {
     }
     let blanked = Job { bytes: copy, stride: job.width, ..job.clone() };
     let (mut again, mut other) = (vec![OLD; area], vec![OLD; area]);
-    let replay = port::refine_marking(&blanked, &mut again, &mut other)?;
+    let replay = port::call_marking(&blanked, &mut again, &mut other)?;
     if !agree(&got, &replay) || again != sheet[..area] {
         return Some(format!("the run over the blanked copy\n  first: {}\n  again: {}", show(&got), show(&replay)));
     }
     if other != blanked.bytes[..area] {
         return Some("the run over the blanked copy left another copy".to_string());
     }
-    // A sheet or a copy that is too short is 7, behind 1 to 6, and leaves both.
+    // A sheet or a copy that is too short is 7, behind 1 to 6 and 25, and leaves both.
     let seven = Outcome { number: 7, ..Outcome::default() };
     for short in [[area - 1, area], [area, area - 1]] {
         let (mut sheet, mut copy) = (vec![OLD; short[0]], vec![OLD; short[1]]);
-        let got = port::refine_marking(job, &mut sheet, &mut copy)?;
+        let got = port::call_marking(job, &mut sheet, &mut copy)?;
         if !agree(&seven, &got) || sheet.iter().chain(&copy).any(|&b| b != OLD) {
             return Some(format!("sheet and copy of {short:?} bytes: {}", show(&got)));
         }
@@ -111,6 +116,7 @@ struct Tally {
     by_way: BTreeMap<(u32, bool, String), u64>,
     by_family: BTreeMap<&'static str, u64>,
     unfinite: u64,
+    past_64: u64,
     on_lattice: u64,
     panicked: u64,
     differed: u64,
@@ -122,13 +128,25 @@ pub struct Options<'a> {
     pub family: Option<&'a str>,
     /// say how the jobs ended in more than a line
     pub ways: bool,
+    /// under settings, by the calls that take them
+    pub settings: bool,
+}
+
+/// The job of a seed.
+fn job(seed: u64, family: Option<&str>, under_settings: bool) -> Job {
+    if under_settings {
+        settings::job(seed, family)
+    } else {
+        families::job(seed, family)
+    }
 }
 
 /// Whether all agreed.
 pub fn run(o: &Options) -> bool {
     let mut t = Tally::default();
+    assert!(port::are_defaults(&settings::defaults()), "the bindings' default settings are the Rust's constants");
     for seed in o.first..o.first + o.count {
-        let job = families::job(seed, o.family);
+        let job = job(seed, o.family, o.settings);
         t.jobs += 1;
         *t.by_family.entry(job.family).or_default() += 1;
         let found = match oracle::judge(&job) {
@@ -139,6 +157,7 @@ pub fn run(o: &Options) -> bool {
             Ok(seen) => {
                 *t.by_number.entry(seen.outcome.number).or_default() += 1;
                 *t.by_way.entry((seen.outcome.number, job.camera.is_some(), way(&seen))).or_default() += 1;
+                t.past_64 += seen.outcome.counts.iter().any(|c| c[0] > 64) as u64;
                 t.unfinite += seen.outcome.corners.as_flattened().iter().any(|x| !x.is_finite()) as u64;
                 t.on_lattice += seen.on_lattice as u64;
                 difference(&job, &seen)
@@ -160,6 +179,7 @@ pub fn run(o: &Options) -> bool {
             println!("{n:7}  {family}");
         }
         println!("{:7}  answers with a corner that is not finite", t.unfinite);
+        println!("{:7}  answers with more than 64 probes on an edge", t.past_64);
     }
     let numbers: Vec<String> = t.by_number.iter().map(|(n, k)| format!("{n}: {k}")).collect();
     let marks = if cfg!(port) { "sheets and copies compared" } else { "no port to compare with" };
@@ -169,8 +189,8 @@ pub fn run(o: &Options) -> bool {
 }
 
 /// One job in full, with what both make of it.
-pub fn explain(seed: u64, family: Option<&str>) -> bool {
-    let job = families::job(seed, family);
+pub fn explain(seed: u64, family: Option<&str>, under_settings: bool) -> bool {
+    let job = job(seed, family, under_settings);
     print!("{job}");
     if crate::rules::entry(&job) == 0 {
         for (k, (_, given)) in oracle::with_input(&job, |input| input.rounds()).iter().enumerate() {
@@ -184,7 +204,7 @@ pub fn explain(seed: u64, family: Option<&str>) -> bool {
         }
         Ok(seen) => {
             println!("Rust: {}, {} samples, {} roots", show(&seen.outcome), seen.samples, seen.roots);
-            if let Some(got) = port::refine(&job) {
+            if let Some(got) = port::call(&job) {
                 println!("port: {}", show(&got));
             }
             let found = difference(&job, &seen);

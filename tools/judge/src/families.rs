@@ -188,6 +188,7 @@ fn drawn(r: &mut Rng, s: Style, camera: impl FnOnce(&mut Rng, f64, f64) -> Optio
         corners,
         inverted,
         camera,
+        settings: None,
     }
 }
 
@@ -365,6 +366,7 @@ fn bare(r: &mut Rng, width: usize, height: usize, bytes: Vec<u8>, stride: usize,
         corners,
         inverted: r.chance(0.5),
         camera,
+        settings: None,
     }
 }
 
@@ -931,6 +933,7 @@ pub fn photograph_of(seed: u64, width: usize, height: usize, dim: usize, lens: L
         corners,
         inverted: false,
         camera,
+        settings: None,
     }
 }
 

@@ -120,6 +120,8 @@ pub struct Job {
     pub corners: [[f64; 2]; 4],
     pub inverted: bool,
     pub camera: Option<Camera>,
+    /// as the calls under settings take them, good ones and others; none of a job for the calls without
+    pub settings: Option<Vec<f64>>,
 }
 
 impl Job {
@@ -170,6 +172,9 @@ impl fmt::Display for Job {
                     Lens::Fisheye(k) => list(f, "fisheye", k)?,
                 }
             }
+        }
+        if let Some(settings) = &self.settings {
+            list(f, "settings", settings)?;
         }
         rows(f, "grid", &self.modules, self.dim as usize)?;
         rows(f, "photograph", &self.bytes, self.stride as usize)

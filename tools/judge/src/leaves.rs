@@ -6,6 +6,7 @@ use crate::oracle::same_floats;
 use crate::port::{self, Aim, Border, Photograph};
 use crate::rng::{neighbour, Rng};
 use crate::rules;
+use crate::settings;
 use watched::refine::access::geometry::{
     arctan, intersect_lines, numbers, of_numbers, sample_bilinear, BorderMode, Line2, PerspectiveTransform,
 };
@@ -336,7 +337,8 @@ fn mirrored(r: &mut Rng, module_px: f64) -> Vec<[f64; 2]> {
     let unit = r.pick(&[1.0, 0.5, 3.0, 0.1]);
     let floor = 0.15 * module_px;
     let mut points = Vec::new();
-    for k in 0..r.int(1, 15) {
+    let most = if r.chance(0.1) { 88 } else { 15 };
+    for k in 0..r.int(1, most) {
         let x = 8.0 * (k + 2) as f64;
         let y = match r.below(8) {
             0 => 0.0,
@@ -360,7 +362,8 @@ fn edge(r: &mut Rng) -> Case {
     let points: Vec<[f64; 2]> = if kind < 4 {
         mirrored(r, module_px)
     } else {
-        let n = r.below(65);
+        // As many as document 02 lets an edge have.
+        let n = if r.chance(0.2) { r.below(355) } else { r.below(65) };
         let (slope, noise) = (r.range(-2.0, 2.0), r.decades(-12.0, 1.0));
         let mut value = |x: f64| match kind {
             4 => slope * x,
@@ -373,7 +376,7 @@ fn edge(r: &mut Rng) -> Case {
     let even = r.chance(0.7);
     let weights: Vec<f64> = points.iter().map(|_| if even || kind < 4 { 16.0 } else { r.range(0.0, 250.0) }).collect();
     let (xs, ys): (Vec<f64>, Vec<f64>) = points.iter().map(|p| (p[0], p[1])).unzip();
-    let probed = r.below(70) as u32;
+    let probed = r.below(360) as u32;
     Case {
         name: "fit_edge",
         input: format!("x {xs:?}, y {ys:?}, weights {weights:?}, probed {probed}, module {module_px:?}"),
@@ -396,87 +399,146 @@ fn cross(r: &mut Rng) -> Case {
     }
 }
 
-fn localize(r: &mut Rng) -> Case {
-    let (mut width, mut height) = (r.int(1, 40) as u32, r.int(1, 40) as u32);
-    let mut stride = width + r.below(3) as u32;
-    let mut bytes = r.bytes((height as usize - 1) * stride as usize + width as usize);
+/// What the calls for one edge point are handed.
+struct Profile {
+    width: u32,
+    height: u32,
+    stride: u32,
+    bytes: Vec<u8>,
+    camera: Option<Camera>,
+    aim: Aim,
+}
+
+/// An edge across the picture, and a profile over it that hardly leaves the picture.
+fn draw_edge(r: &mut Rng, p: &mut Profile, wild: bool) {
+    let (low, high) = (r.range(0.0, 120.0), r.range(124.0, 255.0));
+    let (at, wide) = (r.range(0.3, 0.7) * p.width as f64, r.range(0.2, 3.0));
+    let outward = if r.chance(0.5) { 1.0 } else { -1.0 };
+    let up = if p.aim.inverted { -outward } else { outward };
+    for (i, b) in p.bytes.iter_mut().enumerate() {
+        let t = up * ((i as u32 % p.stride) as f64 - at) / wide;
+        *b = (low + (high - low) / (1.0 + (-t).exp())) as u8;
+    }
+    if !wild {
+        p.aim.step = r.range(0.2, 2.0) * wide;
+        p.aim.coarse = [at + r.range(-1.2, 1.2) * p.aim.step, r.range(0.2, 0.8) * p.height as f64];
+        let lean = r.pick(&[0.0, 0.0, 0.1, -0.3]);
+        p.aim.normal = [outward * f64::cos(lean), f64::sin(lean)];
+    }
+}
+
+/// A camera, mostly one that sees such a picture nearly as it is.
+fn camera_on(r: &mut Rng, width: f64, height: f64) -> Camera {
+    let mut c = camera(r);
+    if r.chance(0.3) {
+        c.lens = Lens::Fisheye([0; 4].map(|_| r.range(-0.3, 0.3)));
+    }
+    let near = [width, width, width / 2.0, height / 2.0];
+    let source = if r.chance(0.8) { near } else { c.source };
+    let rectified = if r.chance(0.8) { source.map(|v| v * r.range(0.98, 1.02)) } else { c.rectified };
+    Camera { source, rectified, ..c }
+}
+
+fn profile(r: &mut Rng) -> Profile {
+    let (width, height) = (r.int(1, 40) as u32, r.int(1, 40) as u32);
+    let stride = width + r.below(3) as u32;
+    let bytes = r.bytes((height as usize - 1) * stride as usize + width as usize);
     let inverted = r.chance(0.5);
     let (turn, wild) = (r.range(0.0, 6.3), r.chance(0.1));
-    let mut aim = Aim {
+    let aim = Aim {
         coarse: if wild { [r.float(), r.float()] } else { [coordinate(r, width), coordinate(r, height)] },
         normal: if wild && r.chance(0.5) { [r.float(), r.float()] } else { [turn.cos(), turn.sin()] },
         step: if wild { r.float() } else { r.decades(-1.0, 0.8) },
         inverted,
         inward_differs: r.chance(0.5),
     };
+    let mut p = Profile { width, height, stride, bytes, camera: None, aim };
     if r.chance(0.8) {
-        // An edge across the picture, and a profile over it that hardly leaves the picture.
-        let (low, high) = (r.range(0.0, 120.0), r.range(124.0, 255.0));
-        let (at, wide) = (r.range(0.3, 0.7) * width as f64, r.range(0.2, 3.0));
-        let outward = if r.chance(0.5) { 1.0 } else { -1.0 };
-        let up = if inverted { -outward } else { outward };
-        for (i, b) in bytes.iter_mut().enumerate() {
-            let t = up * ((i as u32 % stride) as f64 - at) / wide;
-            *b = (low + (high - low) / (1.0 + (-t).exp())) as u8;
-        }
-        if !wild {
-            aim.step = r.range(0.2, 2.0) * wide;
-            aim.coarse = [at + r.range(-1.2, 1.2) * aim.step, r.range(0.2, 0.8) * height as f64];
-            let lean = r.pick(&[0.0, 0.0, 0.1, -0.3]);
-            aim.normal = [outward * f64::cos(lean), f64::sin(lean)];
-        }
+        draw_edge(r, &mut p, wild);
     }
     if r.chance(0.02) {
-        stride = r.pick(&[0, 65536]);
+        p.stride = r.pick(&[0, 65536]);
     }
     if r.chance(0.02) {
-        bytes.pop();
+        p.bytes.pop();
     }
-    let camera = r.chance(0.4).then(|| {
-        let mut c = camera(r);
-        if r.chance(0.3) {
-            c.lens = Lens::Fisheye([0; 4].map(|_| r.range(-0.3, 0.3)));
-        }
-        let near = [width as f64, width as f64, width as f64 / 2.0, height as f64 / 2.0];
-        let source = if r.chance(0.8) { near } else { c.source };
-        let rectified = if r.chance(0.8) { source.map(|v| v * r.range(0.98, 1.02)) } else { c.rectified };
-        Camera { source, rectified, ..c }
-    });
+    p.camera = r.chance(0.4).then(|| camera_on(r, width as f64, height as f64));
     if r.chance(0.01) {
-        let size = if r.chance(0.5) { &mut width } else { &mut height };
+        let size = if r.chance(0.5) { &mut p.width } else { &mut p.height };
         *size = r.pick(&[0, 16385, u32::MAX]);
     }
-    let mut number = rules::photograph(bytes.len(), width, height, stride);
-    if number == 0 {
-        number = camera.as_ref().map_or(0, rules::camera);
+    p
+}
+
+impl Profile {
+    fn photograph(&self) -> Photograph<'_> {
+        Photograph { bytes: &self.bytes, width: self.width, height: self.height, stride: self.stride }
     }
-    let rust = if number != 0 {
-        refused(number, 3)
-    } else {
-        let view = LumaView::new(&bytes, width as usize, height as usize, stride as usize).expect("1 and 2 passed");
-        let calibrated = camera.as_ref().map(|c| calibration(c, width, height).expect("6 passed"));
+
+    /// 1, 2 and 6; 0 where none refuses.
+    fn entry(&self) -> u32 {
+        match rules::photograph(self.bytes.len(), self.width, self.height, self.stride) {
+            0 => self.camera.as_ref().map_or(0, rules::camera),
+            number => number,
+        }
+    }
+
+    /// What the Rust finds, where no check refuses.
+    fn rust(&self) -> (u32, Vec<f64>) {
+        let (width, height) = (self.width as usize, self.height as usize);
+        let view = LumaView::new(&self.bytes, width, height, self.stride as usize).expect("1 and 2 passed");
+        let calibrated = self.camera.as_ref().map(|c| calibration(c, self.width, self.height).expect("6 passed"));
         let bits = access::grid(2, &[0; 4]);
-        let input = Input {
-            view,
-            camera: calibrated.as_ref(),
-            sx: 1.0,
-            sy: 1.0,
-            corners: [[0.0; 2]; 4],
-            bits: &bits,
-            inverted: aim.inverted,
-        };
+        let aim = &self.aim;
+        let camera = calibrated.as_ref();
+        let input = Input { view, camera, sx: 1.0, sy: 1.0, corners: [[0.0; 2]; 4], bits: &bits, inverted: aim.inverted };
         let point = input.localize(aim.coarse, aim.normal, aim.step, aim.inward_differs);
         found(19, point.map(|(p, weight)| [p[0], p[1], weight]))
-    };
-    let photo = Photograph { bytes: &bytes, width, height, stride };
-    Case {
-        name: if camera.is_some() { "localize_edge_point, camera" } else { "localize_edge_point" },
-        input: format!(
+    }
+
+    fn words(&self) -> String {
+        let Profile { width, height, stride, bytes, camera, aim } = self;
+        format!(
             "{width} x {height}, stride {stride}, {bytes:?}, {camera:?}, from {:?} along {:?}, step {:?}, inverted {}, inward differs {}",
             aim.coarse, aim.normal, aim.step, aim.inverted, aim.inward_differs
-        ),
-        rust,
-        port: got(port::localize(photo, camera.as_ref(), &aim)),
+        )
+    }
+}
+
+fn localize(r: &mut Rng) -> Case {
+    let p = profile(r);
+    Case {
+        name: if p.camera.is_some() { "localize_edge_point, camera" } else { "localize_edge_point" },
+        input: p.words(),
+        rust: match p.entry() {
+            0 => p.rust(),
+            number => refused(number, 3),
+        },
+        port: got(port::localize(p.photograph(), p.camera.as_ref(), &p.aim)),
+    }
+}
+
+/// The same under settings: 25 stands behind 6 and before 19.
+fn localize_with(r: &mut Rng) -> Case {
+    let p = profile(r);
+    let mut list = settings::any(r, 21);
+    if list.len() > 8 && r.chance(0.5) {
+        // The contrast floor alone counts.
+        let most = r.pick(&[30, 120, 255]);
+        list[5] = r.int(1, most) as f64;
+    }
+    let number = match p.entry() {
+        0 => rules::settings(&list),
+        number => number,
+    };
+    Case {
+        name: if p.camera.is_some() { "localize_edge_point_with, camera" } else { "localize_edge_point_with" },
+        input: format!("{}, settings {list:?}", p.words()),
+        rust: match number {
+            0 => access::settings::under(settings::of_list(&list), || p.rust()),
+            number => refused(number, 3),
+        },
+        port: got(port::localize_with(p.photograph(), p.camera.as_ref(), &p.aim, &list)),
     }
 }
 
@@ -588,6 +650,7 @@ const LEAVES: &[Leaf] = &[
     (12, edge),
     (8, cross),
     (10, localize),
+    (10, localize_with),
     (6, root),
     (8, smooth),
     (8, convert),
@@ -628,10 +691,10 @@ pub fn run(first: u64, count: u64) -> bool {
         by_name.entry(name).or_default().push(format!("{number}: {n}"));
     }
     for (name, numbers) in &by_name {
-        println!("{name:28} {}", numbers.join(", "));
+        println!("{name:32} {}", numbers.join(", "));
     }
     for name in missing {
-        println!("{name:28} not in the archive");
+        println!("{name:32} not in the archive");
     }
     println!("calls {}; differed {differed}", tally.values().sum::<u64>());
     differed == 0

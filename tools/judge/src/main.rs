@@ -12,11 +12,13 @@ mod oracle;
 mod port;
 mod rng;
 mod rules;
+mod settings;
 mod steer;
 mod turns;
 
 const HELP: &str = "judge jobs [--seeds N] [--from SEED] [--family NAME] [--ways]
-judge job SEED [--family NAME]
+judge settings [--seeds N] [--from SEED] [--family NAME] [--ways]
+judge job SEED [--family NAME] [--settings]
 judge leaves [--calls N] [--from SEED]
 judge bench [--before] [--photographs N] [--repeats N] [--width N] [--dim N] [--lens yes|no|fisheye] [--marking yes|no]
             [--side rust|port|before]
@@ -43,13 +45,14 @@ fn main() {
     let words: Vec<String> = std::env::args().skip(1).collect();
     let family = value(&words, "--family");
     let good = match words.first().map(|w| w.as_str()) {
-        Some("jobs") => compare::run(&compare::Options {
+        Some(kind @ ("jobs" | "settings")) => compare::run(&compare::Options {
+            settings: kind == "settings",
             first: number(&words, "--from", 0),
             count: number(&words, "--seeds", 2000),
             family,
             ways: said(&words, "--ways"),
         }),
-        Some("job") => compare::explain(words.get(1).and_then(|w| w.parse().ok()).expect("judge job SEED"), family),
+        Some("job") => compare::explain(words.get(1).and_then(|w| w.parse().ok()).expect("judge job SEED"), family, said(&words, "--settings")),
         Some("leaves") => leaves::run(number(&words, "--from", 0), number(&words, "--calls", 1_000_000)),
         Some("bench" | "growth") if !cfg!(port) => {
             println!("no port to time");

@@ -1,7 +1,9 @@
-//! What a job must come to: by document 01's entry checks, and behind them by the Rust.
+//! What a job must come to: by the documents' entry checks, and behind them by the Rust.
+use crate::input::plain;
 use crate::input::watched::Prepared;
 use crate::job::Job;
 use crate::rules;
+use crate::settings;
 use std::panic::{catch_unwind, AssertUnwindSafe};
 use watched::refine::access::image::watch;
 use watched::refine::access::{self, Input, RoundEnd};
@@ -20,9 +22,13 @@ pub struct Seen {
     pub rounds: Vec<RoundEnd>,
 }
 
-/// Run something on the Rust's own input, of a job that passes the entry checks.
+/// Run something on the Rust's own input, of a job that passes the entry checks, under the job's settings.
 pub fn with_input<T>(job: &Job, run: impl FnOnce(Input) -> T) -> T {
-    run(Prepared::new(job).input())
+    let run = || run(Prepared::new(job).input());
+    match &job.settings {
+        None => run(),
+        Some(list) => access::settings::under(settings::of_list(list), run),
+    }
 }
 
 thread_local! {
@@ -75,6 +81,8 @@ fn seen(job: &Job, input: Input) -> Seen {
     // The oracle holds itself to its own ways: the other entry, and the rounds one by one.
     assert!(same(&outcome, &input.refine_mapped()), "refine_corners and refine_corners_mapped differ");
     assert!(same(&outcome, &last(&rounds.iter().map(|r| r.1).collect::<Vec<_>>())), "the rounds differ from the run");
+    let by_constants = access::settings::of_run() == access::settings::DEFAULTS;
+    assert!(!by_constants || same(&outcome, &plainly(job)), "the Rust with its constants differs from that with settings");
     Seen {
         outcome,
         sheet,
@@ -82,6 +90,18 @@ fn seen(job: &Job, input: Input) -> Seen {
         samples,
         roots,
         rounds: rounds.iter().map(|r| r.0).collect(),
+    }
+}
+
+/// What the build makes of a job that keeps the constants.
+fn plainly(job: &Job) -> Outcome {
+    let made = plain::Prepared::new(job).input().refine();
+    Outcome {
+        number: made.number,
+        corners: made.corners,
+        counts: made.counts,
+        valid: made.valid,
+        refined: made.refined,
     }
 }
 

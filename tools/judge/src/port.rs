@@ -2,7 +2,7 @@
 use crate::job::{Camera, Job, Lens};
 use crate::oracle::Outcome;
 use trufolmesca::raw::{self, Written};
-use trufolmesca::{Line, Map};
+use trufolmesca::{Line, Map, Settings};
 
 pub use trufolmesca::{Aim, Border, Photograph};
 
@@ -82,6 +82,50 @@ pub mod before {
     use super::{Camera, Job, Lens, Outcome};
 
     refinement!(trufolmesca_before, before);
+}
+
+/// The settings of a list as the bindings' own, where they can hold it: nine numbers, and whole ones where they must be.
+fn settings_of(list: &[f64]) -> Option<Settings> {
+    let [a, b, margin, limit, least, floor, c, d, rounds] = *list else {
+        return None;
+    };
+    let whole = |x: f64| (f64::from(x as u32).to_bits() == x.to_bits()).then_some(x as u32);
+    Some(Settings {
+        probe_fraction_first: a,
+        probe_fraction_second: b,
+        edge_margin_modules: margin,
+        max_points_per_edge: whole(limit)?,
+        min_edge_points: whole(least)?,
+        contrast_floor: whole(floor)?,
+        outlier_floor_modules: c,
+        outlier_median_multiplier: d,
+        rounds: whole(rounds)?,
+    })
+}
+
+/// Whether these are the bindings' own defaults.
+pub fn are_defaults(list: &[f64]) -> bool {
+    settings_of(list) == Some(Settings::default())
+}
+
+/// The refinement call of a job, under its settings where it has some.
+pub fn call(job: &Job) -> Option<Outcome> {
+    match &job.settings {
+        None => refine(job),
+        Some(list) => cfg!(port).then(|| outcome(&raw::refine_corners_with(&request(job), list))),
+    }
+}
+
+/// The marking call of a job, under its settings where it has some, and then from a request that holds them if it can.
+pub fn call_marking(job: &Job, sheet: &mut [u8], copy: &mut [u8]) -> Option<Outcome> {
+    let Some(list) = &job.settings else {
+        return refine_marking(job, sheet, copy);
+    };
+    let written = |sheet, copy| match settings_of(list) {
+        Some(settings) => raw::refine_corners_marking(&request(job).with_settings(settings), sheet, copy),
+        None => raw::refine_corners_marking_with(&request(job), list, sheet, copy),
+    };
+    cfg!(port).then(|| outcome(&written(sheet, copy)))
 }
 
 /// A leaf call's number and values.
@@ -166,6 +210,10 @@ pub fn intersect_lines(a: &[f64; 4], b: &[f64; 4]) -> Leaf<2> {
 
 pub fn localize(p: Photograph, c: Option<&Camera>, a: &Aim) -> Leaf<3> {
     leaf(|| raw::localize_edge_point(&p, c.map(camera).as_ref(), a))
+}
+
+pub fn localize_with(p: Photograph, c: Option<&Camera>, a: &Aim, settings: &[f64]) -> Leaf<3> {
+    leaf(|| raw::localize_edge_point_with(&p, c.map(camera).as_ref(), a, settings))
 }
 
 pub fn sqrt(x: f64) -> Leaf<1> {

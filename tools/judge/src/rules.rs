@@ -1,5 +1,6 @@
 //! The documents' own rules, for what lies outside the comparison with the Rust: document 01's
-//! entry checks, and document 02's smoothing and its result cards, of which there is no Rust.
+//! entry checks, and document 02's check of settings, its smoothing and its result cards, of which
+//! there is no Rust.
 use crate::job::{Camera, Job};
 
 /// 1 and 2; 0 where neither refuses.
@@ -35,7 +36,25 @@ fn grid(modules: &[u8], dim: u32) -> u32 {
     0
 }
 
-/// The entry checks 1 to 6, in order; 0 where none refuses.
+/// 25; 0 where it does not refuse. Document 02: the two probe fractions, the margin, the probe limit, the least points, the
+/// contrast floor, the two outlier factors and the rounds, each from its least to its most. Numbers behind the ninth are not read.
+pub fn settings(list: &[f64]) -> u32 {
+    let [a, b, margin, limit, least, floor, c, d, rounds, ..] = *list else {
+        return 25;
+    };
+    let in_range = |x: f64, low: f64, high: f64| x.is_finite() && x >= low && x <= high;
+    let whole = |x: f64, low: f64, high: f64| x.fract() == 0.0 && in_range(x, low, high);
+    let fractions = in_range(a, 0.0, 1.0) && in_range(b, 0.0, 1.0);
+    let counts = whole(limit, 1.0, 354.0) && whole(least, 2.0, 354.0) && whole(rounds, 1.0, 4.0);
+    let factors = in_range(c, 0.0, 100.0) && in_range(d, 0.0, 100.0);
+    if fractions && in_range(margin, 1.0, 10.0) && counts && whole(floor, 1.0, 255.0) && factors {
+        0
+    } else {
+        25
+    }
+}
+
+/// The entry checks 1 to 6 and 25, in order; 0 where none refuses.
 pub fn entry(job: &Job) -> u32 {
     let scale = |s: f64| s.is_finite() && s > 0.0;
     let near = |x: f64| x.is_finite() && x.abs() <= 1048576.0;
@@ -52,7 +71,10 @@ pub fn entry(job: &Job) -> u32 {
     if !job.source_corners().as_flattened().iter().all(|&x| near(x)) {
         return 5;
     }
-    job.camera.as_ref().map_or(0, camera)
+    match job.camera.as_ref().map_or(0, camera) {
+        0 => job.settings.as_deref().map_or(0, settings),
+        number => number,
+    }
 }
 
 /// Smooths a scan to the front of `out`; 21 or 22, which leave it as it was, else 0.

@@ -156,6 +156,7 @@ pub fn folded(r: &mut Rng) -> Job {
         corners: [place(0.0, -left), place(wide, -right), place(wide, right), place(0.0, left)],
         inverted,
         camera,
+        settings: None,
     };
     // From there, find a place beside it from which the second round ends as wanted: on the spot, too near to be an
     // edge, or near enough that its points do not spread.

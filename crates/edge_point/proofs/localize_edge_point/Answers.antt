@@ -4,4 +4,4 @@ use mathlib.Core.Path.{◌∙◌}
 use Rattle.edge_point.proofs.localize_edge_point.Goals as goal
 
 pub returns : goal.returns
-returns c = c.ok_or.ensures.value ∙ rw (← c.in_ok-check_view.ensures, ← c.defaults.ensures, ← samples_value c.localize-point.ensures)
+returns c = c.ok_or.ensures.value ∙ rw (← c.in_ok-check_entry.ensures, ← samples_value c.localize-point.ensures)

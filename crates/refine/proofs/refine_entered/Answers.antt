@@ -3,4 +3,4 @@ use Rattle.refine.proofs.Calls.{entered}
 use Rattle.refine.proofs.refine_entered.Goals as goal
 
 pub returns : goal.returns
-returns c = entered _ c.args.modules.now c.own_modules-n.ensures c.source_corners-q.ensures c.plan_of.ensures c.refine_rounds.ensures
+returns c = entered _ c.args.modules.now c.own_modules-n.ensures c.source_corners-q.ensures c.plan_of.ensures c.refine_rounds.ensures.answer

@@ -5,10 +5,10 @@ use Rattle.std.proofs.Common.{rules}
 use Rattle.rounds.proofs.RoundByRound.{first_stops, rounds-ran}
 use Rattle.rounds.proofs.refine_rounds.Goals as goal
 
-pub returns-in_err-first : goal.returns-in_err-first
-returns-in_err-first c =
+pub returns-in_err-first-clause-answer : goal.returns-in_err-first-clause-answer
+returns-in_err-first-clause-answer c =
     let refused : c.from_residual.result ≡ Err c.in_err-first.field-0.0 = search rules in
-    rw refused (first_stops _ _ _ c.refine_round.ensures c.in_err-first.was)
+    rw refused (first_stops _ _ _ c.refine_round.ensures.answer c.in_err-first.was)
 
-pub returns : goal.returns
-returns c = rounds-ran _ _ _ c.refine_round.ensures c.in_ok-first.was c.remaining_rounds.ensures
+pub returns-clause-answer : goal.returns-clause-answer
+returns-clause-answer c = rounds-ran _ _ _ c.refine_round.ensures.answer c.in_ok-first.was c.remaining_rounds.ensures.answer

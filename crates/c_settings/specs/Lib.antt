@@ -1,0 +1,2 @@
+-- What the contracts of `c_settings` cite.
+pub mod Lent

@@ -1,0 +1,8 @@
+-- `EdgePoints::none` meets its contract. Assumes nothing.
+use mathlib.Core.Path.{refl}
+use Rattle.fit.specs.Fit.{points_of}
+use Rattle.fit.proofs.edge_points.EdgePoints.none.Goals as goal
+
+pub returns : goal.returns
+unfolding points_of
+returns c = refl
