@@ -12,10 +12,9 @@ use Rattle.pixel.specs.declared.SourcePixel.{SourcePixel}
 use Rattle.fit.specs.declared.EdgeStat.{EdgeStat}
 use Rattle.fit.specs.Fit.{stat}
 use Rattle.corners.specs.declared.RefinedCorners.{RefinedCorners}
-use Rattle.std.specs.Prelude.{Ok, Err}
-use Rattle.corners.specs.Corners.{Answer}
+use Rattle.std.specs.Prelude.{Result, Ok, Err}
 use Rattle.text.proofs.Digits.{length-decimal, length-hexadecimal}
-use Rattle.report.specs.Lines.{result_line, corner_line, edge_line, each_of_four, corner_lines, edge_lines, answer_lines}
+use Rattle.report.specs.Lines.{result_line, corner_line, edge_line, each_of_four, corner_lines, edge_lines, numbered_lines}
 
 length-result : (n : ℕ) → length (result_line n) ≤ 28
 length-result n = simp length-append (omega (arith, length-decimal n))
@@ -39,9 +38,9 @@ length_edges r =
     length-four (λ i. edge_line i (get_or r.edge_stats i (stat 0 0 0 false))) 110
     (λ i. length-edge i (get_or r.edge_stats i (stat 0 0 0 false)))
 
-pub length-answer : (a : Answer) → length (answer_lines a) ≤ 800
+pub length-answer : (a : Result RefinedCorners ℕ) → length (numbered_lines a) ≤ 800
 length-answer (Ok r) =
     let lines = corner_lines r ++ edge_lines r in
     rw (length-append (result_line number.answer) lines, length-append (corner_lines r) (edge_lines r))
     (omega (arith, length-result number.answer, length_corners r, length_edges r))
-length-answer (Err refusal) = omega (arith, length-result (number.number refusal))
+length-answer (Err n) = omega (arith, length-result n)

@@ -3,7 +3,7 @@
 -- and after 0, for each of the indices 0 to 3,
 --   corner INDEX X Y FLAG       x and y as the 16 hexadecimal digits of their bits
 --   edge INDEX PROBED FIT DROPPED VALID
-use Rattle.std.specs.Prelude.{ℕ, zero, suc, Bool, false, List, [], ◌∷◌, ◌++◌, get_or, Ok, Err}
+use Rattle.std.specs.Prelude.{ℕ, zero, suc, Bool, false, List, [], ◌∷◌, ◌++◌, get_or, Result, Ok, Err}
 use Rattle.std.specs.Float.{binary64}
 use Rattle.std.specs.Float.Ieee.{to_bits}
 use Rattle.prelude.specs.Prelude.{bit}
@@ -55,6 +55,11 @@ edge_lines r = each_of_four (λ i. edge_line i (get_or r.edge_stats i (stat 0 0 
 
 -- ---- an answer
 
+-- whatever number refuses it
+abbrev pub numbered_lines : Result RefinedCorners ℕ → List ℕ
+numbered_lines (Ok r) = result_line number.answer ++ (corner_lines r ++ edge_lines r)
+numbered_lines (Err n) = result_line n
+
 abbrev pub answer_lines : Answer → List ℕ
-answer_lines (Ok r) = result_line number.answer ++ (corner_lines r ++ edge_lines r)
-answer_lines (Err refusal) = result_line (number.number refusal)
+answer_lines (Ok r) = numbered_lines (Ok r)
+answer_lines (Err refusal) = numbered_lines (Err (number.number refusal))

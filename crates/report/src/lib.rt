@@ -9,6 +9,7 @@ ghost use Rattle.report.specs.Lines.{
   edge_line,
   corner_lines,
   edge_lines,
+  numbered_lines,
   answer_lines,
 };
 ghost use Rattle.report.specs.Puts.{Puts};
@@ -71,23 +72,38 @@ fn put_edges(out: &mut Output<'_>, r: RefinedCorners)
     }
 }
 
-// Writes an answer's lines.
-fn put_answer(out: &mut Output<'_>, answer: Answer)
-    ensures { Writes out.old out.new (answer_lines answer) }
+// Writes an answer's lines, or the one line of the number that refuses it.
+fn put_answer(out: &mut Output<'_>, answer: Result<RefinedCorners, u32>)
+    ensures { Writes out.old out.new (numbered_lines answer) }
 {
-    put_result(out, number::number_of(&answer));
-    if let Ok(refined) = answer {
-        put_corners(out, refined);
-        put_edges(out, refined);
+    match answer {
+        Ok(refined) => {
+            put_result(out, number::ANSWER);
+            put_corners(out, refined);
+            put_edges(out, refined);
+        }
+        Err(number) => put_result(out, number),
     }
 }
 
-// Writes an answer's lines to the front of `buffer`, and answers how many bytes they take.
-pub fn answer_lines(answer: Answer, buffer: &mut [u8; 1024]) -> usize
+// Writes an answer's lines to the front of `buffer`, and answers how many bytes they take. What refuses the answer is a
+// number, of which callers may pass any.
+pub fn numbered_lines(answer: Result<RefinedCorners, u32>, buffer: &mut [u8; 1024]) -> usize
     ensures prefix_len { IsPrefixLen result buffer.new }
-    ensures puts { Puts buffer.old 0 (answer_lines answer) buffer.new result }
+    ensures puts { Puts buffer.old 0 (numbered_lines answer) buffer.new result }
 {
     let mut out = Output::new(buffer);
     put_answer(&mut out, answer);
     out.at
+}
+
+// The same of an answer that a refusal refuses, by its number.
+pub fn answer_lines(answer: Answer, buffer: &mut [u8; 1024]) -> usize
+    ensures prefix_len { IsPrefixLen result buffer.new }
+    ensures puts { Puts buffer.old 0 (answer_lines answer) buffer.new result }
+{
+    match answer {
+        Ok(refined) => numbered_lines(Ok(refined), buffer),
+        Err(refusal) => numbered_lines(Err(u32::from(refusal)), buffer),
+    }
 }
