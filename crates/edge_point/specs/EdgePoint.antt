@@ -1,7 +1,7 @@
 -- refine.rs, `localize_edge_point` (377 to 416) as a call: the checks of photograph, camera and
 -- settings, then the point, or `Profile` where there is none. Definitions only, to be believed; the
 -- point's passes are in `profile`.
-use Rattle.std.specs.Prelude.{ℕ, List, [], ◌∷◌, ◌++◌, length, Result, ok_or}
+use Rattle.std.specs.Prelude.{ℕ, List, [], ◌∷◌, ◌++◌, length, Option, Result, ok_or}
 use Rattle.std.specs.Result.{result_and}
 use Rattle.prelude.specs.Checks.{check, first}
 use Rattle.number.specs.declared.Refusal.{Refusal}
@@ -27,7 +27,11 @@ entry_check bytes stride e settings =
     ∷ []
     )
 
+-- an edge point, or the refusal where there is none
+abbrev pub point_answer : Option EdgePoint → Result EdgePoint Refusal
+point_answer p = ok_or p refusal.Profile
+
 -- the leaf call: those, then that the profile has no edge point
 abbrev pub localize_edge_point : List ℕ → ℕ → Scene → Settings → Ray → Result EdgePoint Refusal
 localize_edge_point bytes stride e settings y =
-    result_and (entry_check bytes stride e settings) (ok_or (value e (photo bytes stride) (localize settings y)) refusal.Profile)
+    result_and (entry_check bytes stride e settings) (point_answer (value e (photo bytes stride) (localize settings y)))

@@ -16,9 +16,8 @@ use Rattle.pixel.specs.Pixels.{edge_point}
 use Rattle.pixel.specs.declared.Direction.{Direction}
 use Rattle.pixel.specs.declared.EdgePoint.{EdgePoint}
 use Rattle.profile.specs.declared.Ray.{Ray}
-use Rattle.peak.specs.Peak.{peak}
 use Rattle.aitken.specs.Aitken.{projection, aitken}
-use Rattle.profile.specs.Profile.{offset_along, sample_profile, profile, found, pass, passes, localize}
+use Rattle.profile.specs.Profile.{offset_along, sample_profile, profile, passed, pass, passes, localize}
 
 module _ (normal : Direction) (step : Float) (c : SourcePixel) where
   sample-profile-most : (n k : ℕ) (got : List Float) → AtMost n (sample_profile normal step c n k got)
@@ -33,9 +32,9 @@ module _ (normal : Direction) (step : Float) (c : SourcePixel) where
 module _ (settings : Settings) (ray : Ray) where
   pass-most : (c : SourcePixel) → AtMost 7 (pass settings ray c)
   pass-most c =
-      let at_peak : List Float → SampleTree (Option EdgePoint) = λ s. done (found ray.normal ray.step c (peak settings ray.inverted ray.inward_differs s)) in
+      let at_peak : List Float → SampleTree (Option EdgePoint) = λ s. done (passed settings ray c s) in
       most_bind-some 7 0 (profile ray.normal ray.step c) at_peak (sample-profile-most ray.normal ray.step c 7 0 [])
-      (λ s. most-done 0 (found ray.normal ray.step c (peak settings ray.inverted ray.inward_differs s)))
+      (λ s. most-done 0 (passed settings ray c s))
 
   sevens : (n : ℕ) → 7 + 7 * n ≡ 7 * suc n
   sevens n = omega arith

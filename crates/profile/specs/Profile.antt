@@ -39,10 +39,14 @@ abbrev pub found : Direction → Float → SourcePixel → Option Peak → Optio
 found normal step c None = None
 found normal step c (Some p) = Some (edge_point (offset_along normal step c p.offset) p.weight)
 
+-- what a pass comes to, once the profile has its samples
+abbrev pub passed : Settings → Ray → SourcePixel → List Float → Option EdgePoint
+passed s y c samples = found y.normal y.step c (peak s y.inverted y.inward_differs samples)
+
 abbrev pub pass : Settings → Ray → SourcePixel → SampleTree (Option EdgePoint)
 pass s y c = do
   samples ← profile y.normal y.step c
-  done (found y.normal y.step c (peak s y.inverted y.inward_differs samples))
+  done (passed s y c samples)
 
 -- ---- `localize_edge_point`: three passes, and where they tend
 

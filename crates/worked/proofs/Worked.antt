@@ -6,10 +6,9 @@ use mathlib.Core.List.{List, [], ◌∷◌, map}
 use lib.Dec.{T, eqb}
 use lib.ListN.{length, replicate}
 use lib.Ieee.{Float, binary64, neg, to_bits}
-use Rattle.std.specs.Prelude.{Option, None, ok_or, Result, Ok, Err}
+use Rattle.std.specs.Prelude.{None, Result, Ok, Err}
 use Rattle.number.specs.Numbers.{answer, number, number_of}
 use Rattle.number.specs.declared.Refusal.{Refusal}
-use Rattle.number.specs.declared.Refusal.TheVariants as refusal
 use Rattle.ieee.proofs.Opened as Ieee
 use Rattle.ieee_root.proofs.Opened as Root
 use Rattle.footprint.proofs.Opened as Footprint
@@ -25,7 +24,6 @@ use Rattle.refine.proofs.Opened as Refine
 use Rattle.ieee.specs.Floats.{◌⊘◌, f0, f1, f2, f3, f½, float}
 use Rattle.consts.specs.Consts.{defaults}
 use Rattle.pixel.specs.Pixels.{source, direction, edge_point}
-use Rattle.pixel.specs.declared.EdgePoint.{EdgePoint}
 use Rattle.pixel.specs.declared.SourcePixel.{SourcePixel}
 use Rattle.pixel.specs.declared.WorkingPixel.{WorkingPixel}
 use Rattle.homography.specs.declared.PerspectiveTransform.{PerspectiveTransform}
@@ -36,10 +34,10 @@ use Rattle.line.specs.Line.{line, crossing, cross_answer}
 use Rattle.footprint.specs.declared.BorderMode.TheVariants.{Reject}
 use Rattle.sampling.specs.Sampling.{sample_bilinear}
 use Rattle.fit.specs.Fit.{fit_edge}
-use Rattle.peak.specs.Peak.{peak}
 use Rattle.aitken.specs.Aitken.{aitken}
 use Rattle.profile.specs.declared.Ray.{Ray}
-use Rattle.profile.specs.Profile.{found}
+use Rattle.profile.specs.Profile.{passed}
+use Rattle.edge_point.specs.EdgePoint.{point_answer}
 use Rattle.grid.specs.Grids.{Grid}
 use Rattle.probes.specs.Probes.{probes_of}
 use Rattle.request.specs.declared.Request.{Request}
@@ -78,10 +76,6 @@ of : {A : Type 0} → (A → List Float) → Result A Refusal → Outcome
 of values (Ok a) = gives (values a)
 of values (Err e) = refuses (number e)
 
--- an edge point, and the refusal where there is none
-of_point : (EdgePoint → List Float) → Option EdgePoint → Outcome
-of_point values p = of values (ok_or p refusal.Profile)
-
 -- from the origin along the x axis, so that a place there is its offset
 rightwards : Bool → Ray
 rightwards inward_differs = record { coarse = source f0 f0; normal = direction f1 f0; step = f1; inverted = false; inward_differs = inward_differs }
@@ -91,10 +85,9 @@ all_dark dim = record { dim = dim; modules = replicate (dim * dim) 1 }
 
 outcome : Case → Outcome
 outcome (samples vs inward_differs) =
-    let y = rightwards inward_differs in
-    of_point (λ p. p.pos.0 ∷ p.weight ∷ []) (found y.normal y.step (source f0 f0) (peak defaults y.inverted y.inward_differs (map float vs)))
+    of (λ p. p.pos.0 ∷ p.weight ∷ []) (point_answer (passed defaults (rightwards inward_differs) (source f0 f0) (map float vs)))
 outcome (projections x0 x1 x2 step) =
-    of_point (λ p. p.pos.0 ∷ []) (aitken (direction f1 f0) step (edge_point (source x2 f0) f1) (x0 ∷ x1 ∷ x2 ∷ []))
+    of (λ p. p.pos.0 ∷ []) (point_answer (aitken (direction f1 f0) step (edge_point (source x2 f0) f1) (x0 ∷ x1 ∷ x2 ∷ [])))
 outcome (pixels x y) = of (λ v. v ∷ []) (sample_bilinear (0 ∷ 100 ∷ 200 ∷ 40 ∷ []) 2 2 2 x y Reject)
 outcome (border dim) = gives (map (λ e. float (length (probes_of defaults (all_dark dim) e))) (0 ∷ 1 ∷ 2 ∷ 3 ∷ []))
 outcome (corners q u v) = of (λ (m : PerspectiveTransform). (map_point m u v).0 ∷ (map_point m u v).1 ∷ []) (map_answer (square_to_quad q))
@@ -144,7 +137,7 @@ right [] = true
 right (c ∷ cs) = eqb (outcome c.0).number c.1.number && same_values (outcome c.0).values c.1.values && right cs
 
 pub worked : T (right cases)
-unfolding right same_values cases outcome of of_point rightwards all_dark quarters to_bits Ieee.opened Root.opened Footprint.opened Sampling.opened Profile.opened Grids.opened Probes.opened
+unfolding right same_values cases outcome of rightwards all_dark quarters to_bits Ieee.opened Root.opened Footprint.opened Sampling.opened Profile.opened Grids.opened Probes.opened
 worked = tt
 
 -- ---- the grey photograph
