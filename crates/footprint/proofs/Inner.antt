@@ -60,6 +60,11 @@ before_last n x N b weighs = by (ltb (whole_part x) n) refl
         let same : whole_part x ≡ n = le_antisymm (whole_part_le n x (omega arith) b.finite b.upto) reached in
         absurd (true≢false (sym (equals_zero (x ⊖ float (whole_part x)) (subst (λ (k : ℕ). Zero (x ⊖ float k)) (sym same) (no_fraction n x N b reached))) ∙ weighs))
 
+-- ---- the column or row after i
+
+pub with_weight : (i n : ℕ) (f : Float) {j : ℕ} → (f ≐ f0) ≡ false → j ≡ min (i + 1) (n - 1) → j ≡ neighbour i n f
+with_weight i n f h e = rw (h, neighbour) e
+
 -- ---- a sample inside, both of whose coordinates lie between whole numbers
 
 module _
@@ -99,6 +104,3 @@ module _
       where
         uncut : (i n : ℕ) → i < n → i + 1 ≡ min (i + 1) n
         uncut i n l = omega arith
-
-        with_weight : (i n : ℕ) (f : Float) {j : ℕ} → (f ≐ f0) ≡ false → j ≡ min (i + 1) (n - 1) → j ≡ neighbour i n f
-        with_weight i n f h e = rw (h, neighbour) e

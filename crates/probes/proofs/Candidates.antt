@@ -110,7 +110,7 @@ module _ (s : Settings) (g : Grid) (e : LabelEdge) where
 
   module _ (from skip : ℕ) where
     -- a place is passed
-    sought_on : (j : ℕ) {left here : ℕ} → j < 2 * g.dim → here ≡ length (candidate s g e j) → here ≤ left
+    pub sought_on : (j : ℕ) {left here : ℕ} → j < 2 * g.dim → here ≡ length (candidate s g e j) → here ≤ left
         → drop left (onward s g e j) ≡ drop skip (onward s g e from) → drop (left - here) (onward s g e (j + 1)) ≡ drop skip (onward s g e from)
     sought_on j {left} {here} l is few had =
         let behind = onward s g e (j + 1) in
