@@ -1,7 +1,7 @@
 // camera.rs: from a rectified place to the source picture, for no lens, Brown-Conrady and fisheye.
 #![tactic(auto)]
 
-ghost use Rattle.std.specs.Prelude.{◌≡◌, ◌<◌, ℕ, Option, option_map, slice_index_or};
+ghost use Rattle.std.specs.Prelude.{◌≡◌, ◌<◌, ℕ, Option, Some, option_map, slice_index_or};
 ghost use Rattle.pixel.specs.declared.SourcePixel.{SourcePixel};
 ghost use Rattle.camera.specs.declared.Normalized.{Normalized};
 ghost use Rattle.camera.specs.Together.{through_fisheye};
@@ -125,6 +125,19 @@ fn if_finite(p: SourcePixel) -> Option<SourcePixel>
     }
 }
 
+// The places of a profile as they are. This array and those below are filled by an index: with `map`,
+// which takes each element through an `Option`, a job through a lens took a seventh longer.
+pub fn unmoved(places: [SourcePixel; 7]) -> [Option<SourcePixel>; 7]
+    ensures { (i : ℕ) (p : SourcePixel) (q : Option SourcePixel) → i < 7 →
+        slice_index_or result i q ≡ Some (slice_index_or places i p) }
+{
+    let mut all = [None; 7];
+    for k in 0..7usize {
+        all[k] = Some(places[k]);
+    }
+    all
+}
+
 impl CameraCalibration {
     // Not refused by `Lens`.
     pub fn valid(self) -> bool
@@ -134,7 +147,7 @@ impl CameraCalibration {
     }
 
     // No lens, and both pictures have the same intrinsics: the camera changes nothing.
-    fn is_identity(self) -> bool
+    pub fn is_identity(self) -> bool
         ensures { result ≡ is_identity self }
     {
         self.distortion.is_none() && self.intrinsics == self.rectified
@@ -171,7 +184,7 @@ impl CameraCalibration {
     }
 
     // Through the rectified picture's intrinsics, the lens, and the source picture's intrinsics.
-    fn project(self, p: SourcePixel) -> Option<SourcePixel>
+    pub fn project(self, p: SourcePixel) -> Option<SourcePixel>
         ensures { result ≡ projected self p }
     {
         self.if_in_pixels(self.distortion.distort(self.on_plane(p)))
@@ -197,8 +210,7 @@ impl CameraCalibration {
         if_finite(self.carried(p)?)
     }
 
-    // Rectified places on the picture plane. This array and those like it are filled by an index: with
-    // `map`, which takes each element through an `Option`, a job through a lens took a seventh longer.
+    // Rectified places on the picture plane.
     fn on_planes(self, places: [SourcePixel; 7]) -> [Normalized; 7]
         ensures { (i : ℕ) (p : SourcePixel) (n : Normalized) → i < 7 →
             slice_index_or result i n ≡ on_plane self.rectified (slice_index_or places i p) }
@@ -236,7 +248,8 @@ impl CameraCalibration {
     }
 
     // Where the steps of the camera carry the places of a profile, finite or not: whether a place is
-    // finite is asked where the sample falls.
+    // finite is asked where the sample falls. Whether the camera changes nothing is asked once: asked of
+    // each place, it made a job through such a camera a quarter longer.
     pub fn carried_profile(self, places: [SourcePixel; 7]) -> [Option<SourcePixel>; 7]
         ensures { (i : ℕ) (p : SourcePixel) (q : Option SourcePixel) → i < 7 →
             slice_index_or result i q ≡ carried self (slice_index_or places i p) }
@@ -244,9 +257,12 @@ impl CameraCalibration {
         if let LensDistortion::Fisheye { k1, k2, k3, k4 } = self.distortion {
             return self.through_fisheye(k1, k2, k3, k4, places);
         }
+        if self.is_identity() {
+            return unmoved(places);
+        }
         let mut all = [None; 7];
         for k in 0..7usize {
-            all[k] = self.carried(places[k]);
+            all[k] = self.project(places[k]);
         }
         all
     }

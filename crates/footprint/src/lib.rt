@@ -1,7 +1,7 @@
 // sampling.rs and sample.rs: where a sample falls, worked out without the photograph.
 #![tactic(auto)]
 
-ghost use Rattle.std.specs.Prelude.{◌≡◌, ℕ, ◌+◌, ◌-◌, ◌<◌, min, ◌&&◌, not, true, Option, Some, IfSome, slice_index_or};
+ghost use Rattle.std.specs.Prelude.{◌≡◌, ℕ, ◌+◌, ◌-◌, ◌<◌, min, ◌&&◌, not, true, Option, IfSome, slice_index_or};
 ghost use Rattle.ieee.specs.Parts.{is_finite};
 ghost use Rattle.ieee.specs.Floats.{◌≺◌, f0, float};
 ghost use Rattle.pixel.specs.declared.SourcePixel.{SourcePixel};
@@ -176,25 +176,13 @@ pub fn footprint_at(width: u32, height: u32, border: BorderMode, x: f64, y: f64)
     size.at_border(border, p)
 }
 
-// The places of a profile as they are, by an index, as `camera` fills its arrays.
-fn unmoved(places: [SourcePixel; 7]) -> [Option<SourcePixel>; 7]
-    ensures { (i : ℕ) (p : SourcePixel) (q : Option SourcePixel) → i < 7 →
-        slice_index_or result i q ≡ Some (slice_index_or places i p) }
-{
-    let mut all = [None; 7];
-    for k in 0..7usize {
-        all[k] = Some(places[k]);
-    }
-    all
-}
-
 // Where the camera's steps carry the places of a profile, finite or not.
 pub fn carried_through(view: View, places: [SourcePixel; 7]) -> [Option<SourcePixel>; 7]
     ensures { (i : ℕ) (p : SourcePixel) (q : Option SourcePixel) → i < 7 →
         slice_index_or result i q ≡ carried_through view (slice_index_or places i p) }
 {
     match view {
-        None => unmoved(places),
+        None => camera::unmoved(places),
         Some(camera) => camera.carried_profile(places),
     }
 }
