@@ -5,9 +5,14 @@
 
 use test_io::{print_hex, print_number};
 
-// The value of a digit. The list has no other character.
+// The value of a digit in small letters. The list has no other character; others are read by their distance too.
 fn digit(c: u8) -> u64 {
-    (c as char).to_digit(16).unwrap_or(0) as u64
+    let value = match c {
+        b'a'..=255 => c - b'a' + 10,
+        b'0'..=96 => c - b'0',
+        _ => 0,
+    };
+    u64::from(value)
 }
 
 // The number that digits say.
