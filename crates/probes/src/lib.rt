@@ -187,7 +187,7 @@ fn decimation(n: usize, most: usize) -> usize
 
 // The probes of an edge that are still to come: of its candidates from place `at` on every k-th, behind `skip` that are
 // passed over, and `left` at most. They are sought as they are asked for, so that no list of them is kept.
-#[derive(Drop)]
+#[derive(Clone, Drop)]
 pub struct Probes<'a> {
     side: Edge<'a>,
     k: usize,
