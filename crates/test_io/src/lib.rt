@@ -36,8 +36,8 @@ pub fn run_cards<T: CardTest>() {
         let Some(n) = next_card(&mut buffer) else {
             return;
         };
-        io::write_all(1, b"card");
-        print_number(index);
+        io::write_all(1, b"card ");
+        io::print_decimal(1, index);
         io::write_all(1, b"\n");
         T::run(&buffer[..n]);
     }

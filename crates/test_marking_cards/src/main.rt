@@ -24,7 +24,7 @@ struct Same {
 
 // A truth value as 0 or 1, printed.
 fn print_bit(b: bool) {
-    print_number(u64::from(b));
+    io::write_all(1, if b { b" 1" } else { b" 0" });
 }
 
 // What two runs have in common, printed.
