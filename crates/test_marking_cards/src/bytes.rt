@@ -24,10 +24,12 @@ pub(crate) fn poison_all(out: &mut [u8], seed: u8) {
 
 // Whether all bytes from `from` on are the poison that was put there.
 pub(crate) fn is_poison(s: &[u8], from: usize, seed: u8) -> bool {
-    s.iter()
-        .enumerate()
-        .skip(from)
-        .all(|(i, b)| *b == poison(i, seed))
+    for i in from..s.len() {
+        if s[i] != poison(i, seed) {
+            return false;
+        }
+    }
+    true
 }
 
 // How many bytes are 1.
