@@ -24,7 +24,7 @@ use Rattle.peak.specs.declared.Peak.{Peak}
 use Rattle.peak.specs.Peak.{peak}
 use Rattle.aitken.specs.Aitken.{projection, aitken}
 use Rattle.profile.specs.declared.Ray.{Ray}
-use Rattle.profile.specs.Profile.{offset_along, profile, found, pass, passes}
+use Rattle.profile.specs.Profile.{offset_along, profile, found, passed as come_to, pass, passes}
 
 module _ (settings : Settings) (ray : Ray) (first : EdgePoint) where
   abbrev whole : SampleTree (Option EdgePoint)
@@ -43,7 +43,7 @@ module _ (settings : Settings) (ray : Ray) (first : EdgePoint) where
 
   -- what the peak of a profile comes to
   at_peak : SourcePixel → List Float → SampleTree (Option EdgePoint)
-  at_peak c samples = done (found ray.normal ray.step c (peak settings ray.inverted ray.inward_differs samples))
+  at_peak c samples = done (come_to settings ray c samples)
 
   module _ {n : ℕ} (q : EdgePoint) (xs : List Float) {begin now : Sampler} (l : n < 3) (before : Passed begin now n q xs) where
     turn : Left begin now whole (pass settings ray q.pos >>= on_some (onward n xs))
