@@ -6,7 +6,7 @@ use corners::Answer;
 use job::{modules_of, photograph_of, request_of};
 use job_card::well_formed;
 use number::Refusal;
-use result_card::{Form, put_result};
+use result_card::{RESULT_SIZE, put_result};
 
 // The answer of a job card: refused by `Card` where it is malformed, else that of the refinement it asks for.
 pub fn run_job(card: &[u8]) -> Answer
@@ -24,7 +24,7 @@ pub fn run_card(card: &[u8], out: &mut [u8]) -> Result<(), Refusal>
     ensures value { result ≡ run_end card.now out.old }
     ensures out_after { out.new ≡ run_leaves card.now out.old }
 {
-    if out.len() < Form::Newer.size() {
+    if out.len() < RESULT_SIZE {
         return Err(Refusal::Card);
     }
     put_result(out, run_job(card)?);

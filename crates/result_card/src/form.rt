@@ -15,6 +15,9 @@ pub(crate) const STATS_AT: usize = HEAD + CORNERS_SIZE;
 
 pub(crate) const FIRST_STAT: usize = STATS_AT + HEAD;
 
+// The length of a result card as it is written: of the newer form, three headers, four corners, four counts, four flags.
+pub const RESULT_SIZE: usize = 105;
+
 // A form of the result card.
 #[derive(Clone, Copy)]
 pub enum Form {

@@ -7,5 +7,5 @@ mod form; // form.rt: the two forms, and where their fields lie
 mod write; // write.rt: a card written of an answer
 
 pub use convert::{narrow_result_card, widen_result_card};
-pub use form::Form;
+pub use form::{Form, RESULT_SIZE};
 pub use write::put_result;
