@@ -183,7 +183,9 @@ impl CameraCalibration {
         }
     }
 
-    // Through the rectified picture's intrinsics, the lens, and the source picture's intrinsics.
+    // Through the rectified picture's intrinsics, the lens, and the source picture's intrinsics. Put in
+    // where it is called: out of line a job through Brown-Conrady took an eighth longer.
+    #[inline(always)]
     pub fn project(self, p: SourcePixel) -> Option<SourcePixel>
         ensures { result ≡ projected self p }
     {
