@@ -162,6 +162,16 @@ pub fn smooth_over(scan: &mut [u16], window: u32) -> Result<(), Refusal>
     Ok(())
 }
 
+// Copies a scan over a buffer of its length, height by height: the archive for C is to need no `memmove`.
+fn copy(scan: &[u16], out: &mut [u16])
+    requires { length out.old ≡ length scan.now }
+    ensures { out.new ≡ scan.now }
+{
+    for i in 0..scan.len() {
+        out[i] = scan[i];
+    }
+}
+
 // Smooths a scan to the front of a second buffer, whose records behind the scan's stay; a wrong
 // window, then too little room, leave all of it as it was.
 pub fn smooth_to(scan: &[u16], window: u32, out: &mut [u16]) -> Result<(), Refusal>
@@ -173,7 +183,7 @@ pub fn smooth_to(scan: &[u16], window: u32, out: &mut [u16]) -> Result<(), Refus
         return Err(Refusal::Room);
     }
     let front = &mut out[..scan.len()];
-    front.copy_from_slice(scan);
+    copy(scan, front);
     window.smooth(front);
     Ok(())
 }
