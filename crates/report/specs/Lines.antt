@@ -55,6 +55,11 @@ edge_lines r = each_of_four (λ i. edge_line i (get_or r.edge_stats i (stat 0 0 
 
 -- ---- an answer
 
+-- its number
+abbrev pub number_in : Result RefinedCorners ℕ → ℕ
+number_in (Ok r) = number.answer
+number_in (Err n) = n
+
 -- whatever number refuses it
 abbrev pub numbered_lines : Result RefinedCorners ℕ → List ℕ
 numbered_lines (Ok r) = result_line number.answer ++ (corner_lines r ++ edge_lines r)

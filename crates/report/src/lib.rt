@@ -1,6 +1,7 @@
 // The lines that are printed of an answer, as text in a buffer.
 #![tactic(auto)]
 
+ghost use Rattle.std.specs.Prelude.{◌≡◌};
 ghost use Rattle.io.specs.Counts.{IsPrefixLen};
 ghost use Rattle.fields.specs.Output.{Writes};
 ghost use Rattle.report.specs.Lines.{
@@ -9,6 +10,7 @@ ghost use Rattle.report.specs.Lines.{
   edge_line,
   corner_lines,
   edge_lines,
+  number_in,
   numbered_lines,
   answer_lines,
 };
@@ -72,17 +74,24 @@ fn put_edges(out: &mut Output<'_>, r: RefinedCorners)
     }
 }
 
-// Writes an answer's lines, or the one line of the number that refuses it.
+// The number of an answer, or the one that refuses it.
+fn number_in(answer: Result<RefinedCorners, u32>) -> u32
+    ensures { result ≡ number_in answer }
+{
+    match answer {
+        Ok(_) => number::ANSWER,
+        Err(number) => number,
+    }
+}
+
+// Writes an answer's lines.
 fn put_answer(out: &mut Output<'_>, answer: Result<RefinedCorners, u32>)
     ensures { Writes out.old out.new (numbered_lines answer) }
 {
-    match answer {
-        Ok(refined) => {
-            put_result(out, number::ANSWER);
-            put_corners(out, refined);
-            put_edges(out, refined);
-        }
-        Err(number) => put_result(out, number),
+    put_result(out, number_in(answer));
+    if let Ok(refined) = answer {
+        put_corners(out, refined);
+        put_edges(out, refined);
     }
 }
 
