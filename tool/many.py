@@ -164,15 +164,16 @@ def _in_pool(waiting: deque[Task], jobs: int, suspects: list[Task]) -> Iterator[
         try:
             while waiting or running:
                 while waiting and len(running) < 2 * jobs:
-                    task = waiting.popleft()
-                    running[pool.submit(measured_and_written, task)] = task
+                    # In two steps: a pool that has just broken refuses the task, which has to wait on.
+                    future = pool.submit(measured_and_written, waiting[0])
+                    running[future] = waiting.popleft()
                 done, _ = wait(running, return_when=FIRST_COMPLETED)
                 for future in done:
                     outcome = future.result()
                     del running[future]
                     yield outcome
         except BrokenProcessPool:
-            suspects += running.values()
+            suspects += running.values() or [waiting.popleft()]
         except (KeyboardInterrupt, GeneratorExit):
             pool.shutdown(cancel_futures=True)
             raise

@@ -5,6 +5,8 @@ import csv
 import multiprocessing
 import os
 import struct
+from concurrent.futures import Executor, Future
+from concurrent.futures.process import BrokenProcessPool
 
 import numpy as np
 import pytest
@@ -356,6 +358,27 @@ def test_a_worker_that_dies_is_said_and_the_rest_goes_on(archive, monkeypatch):
     assert archive.measure(*photos, "--jobs", 2) == 1
     assert archive.said.count("FIND ") == 5 and archive.said.count("ended from outside") == 1
     assert archive.record("find2")["number"] is None and archive.record("find5")["number"] == 0
+
+
+@pytest.mark.parametrize("taken", [0, 1, 2])
+def test_a_task_that_a_broken_pool_refuses_is_not_lost(monkeypatch, taken):
+    class Pool(Executor):
+        """Workers that die before the task behind so many."""
+
+        def __init__(self, jobs):
+            self.left = taken if jobs > 1 else 1
+
+        def submit(self, work, task):
+            if self.left == 0:
+                raise BrokenProcessPool
+            self.left -= 1
+            future: Future = Future()
+            future.set_result(work(task))
+            return future
+
+    monkeypatch.setattr(many, "_pool", Pool)
+    monkeypatch.setattr(many, "measured_and_written", lambda task: task)
+    assert sorted(many._outcomes([1, 2, 3, 4, 5], 2)) == [1, 2, 3, 4, 5]
 
 
 def test_a_mistake_in_the_tool_is_said_and_the_rest_goes_on(archive, monkeypatch):
