@@ -2,7 +2,7 @@
 #![tactic(auto)]
 
 ghost use Rattle.std.specs.Prelude.{◌≡◌, ◌<◌};
-ghost use Rattle.corners.specs.Corners.{crossed_at, line_count, nothing_refined, refined_corners, round_end, round_ended};
+ghost use Rattle.corners.specs.Corners.{crossed_at, line_count, nothing_refined, refined_corners, round_end};
 
 use edges::Edges;
 use fit::EdgeStat;
@@ -82,11 +82,4 @@ pub fn round_end(q: [SourcePixel; 4], edges: Edges) -> Answer
         return Err(Refusal::Thin);
     }
     Ok(refined_corners(q, edges))
-}
-
-// The same where the edges may be refused: that ends the round before, whatever refuses them.
-pub fn round_ended<R: Copy>(q: [SourcePixel; 4], edges: Result<Edges, R>) -> Result<Answer, R>
-    ensures { result ≡ round_ended q edges }
-{
-    Ok(round_end(q, edges?))
 }

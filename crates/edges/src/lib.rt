@@ -2,7 +2,7 @@
 #![tactic(auto)]
 
 ghost use Rattle.std.specs.Prelude.{◌≡◌};
-ghost use Rattle.edges.specs.Edges.{with_edge, with_fit, no_edges, no_stat};
+ghost use Rattle.edges.specs.Edges.{with_edge, no_edges, no_stat};
 
 use fit::{EdgeFit, EdgeStat};
 use line::Line2;
@@ -48,17 +48,4 @@ impl Edges {
         }
         edges
     }
-}
-
-// The same where either may be refused: by whatever refuses the edge, and else by what refused those before it.
-pub fn with_fit<R: Copy>(
-    edges: Result<Edges, R>,
-    e: usize,
-    fit: Result<EdgeFit, R>,
-) -> Result<Edges, R>
-    ensures { result ≡ with_fit e edges fit }
-{
-    let fit = fit?;
-    let edges = edges?;
-    Ok(edges.with(e, fit))
 }
