@@ -251,7 +251,7 @@ impl CameraCalibration {
 
     // Where the steps of the camera carry the places of a profile, finite or not: whether a place is
     // finite is asked where the sample falls. Whether the camera changes nothing is asked once: asked of
-    // each place, it made a job through such a camera a quarter longer.
+    // each place, a job through such a camera took two fifths longer.
     pub fn carried_profile(self, places: [SourcePixel; 7]) -> [Option<SourcePixel>; 7]
         ensures { (i : ℕ) (p : SourcePixel) (q : Option SourcePixel) → i < 7 →
             slice_index_or result i q ≡ carried self (slice_index_or places i p) }
