@@ -1,4 +1,5 @@
 -- The laws that the proofs of `edge` cite.
+pub mod AnyHandler
 pub mod Probing
 -- what the crates above cite
 pub mod Counts

@@ -1,4 +1,5 @@
 -- What holds of an edge point.
+pub mod AnyHandler
 pub mod SampleProfile
 pub mod Passes
 pub mod Bounds

@@ -1,30 +1,26 @@
 -- A pass of an edge point, as a step of the tree that is left: a sample was rejected, or the profile has no peak, or the pass has found a point, or
--- all three are done. Assumes nothing.
-use mathlib.Core.Path.{◌≡◌, refl, sym, ap, ◌∙◌, subst}
+-- all three are done. Each follows from the same law of every handler. Assumes nothing.
+use mathlib.Core.Path.{◌≡◌}
 use Prim.Native.Nat.{ℕ, ◌+◌, ◌-◌, ◌<◌}
-use native.Mathlib.Numerals.{add-one}
 use native.Mathlib.Omega.{arith}
-use mathlib.Core.List.{List, [], ◌∷◌, ◌++◌}
+use mathlib.Core.List.{List, []}
 use Rattle.std.specs.Prelude.{Option, None, Some}
 use lib.ListN.{length, take, set}
-use lib.Seq.{take-suc-set, take_all}
 use lib.Ieee.{Float}
-use Rattle.prelude.proofs.Lists.{one_less}
 use Rattle.consts.specs.declared.Settings.{Settings}
 use Rattle.pixel.specs.declared.SourcePixel.{SourcePixel}
 use Rattle.pixel.specs.declared.EdgePoint.{EdgePoint}
 use Rattle.pixel.specs.Pixels.{edge_point}
-use Rattle.sample_tree.specs.SampleTree.{SampleTree, done, ◌>>=◌}
-use Rattle.sample_tree.specs.Options.{on_some}
+use Rattle.sample_tree.specs.SampleTree.{SampleTree}
 use Rattle.sample_tree.specs.declared.Sampler.{Sampler}
-use Rattle.sample_tree.specs.Samplers.{Samples}
-use Rattle.sample_tree.proofs.Samplers as laws
-use Rattle.sample_tree.proofs.Samplers.{Left, start, called, end, ended, found_none}
+use Rattle.sample_tree.specs.Samplers.{sampler_of, Samples}
+use Rattle.sample_tree.proofs.Samplers.{Left, start, lifted, lifted_end, lifted_here}
 use Rattle.peak.specs.declared.Peak.{Peak}
 use Rattle.peak.specs.Peak.{peak}
 use Rattle.aitken.specs.Aitken.{projection, aitken}
 use Rattle.profile.specs.declared.Ray.{Ray}
-use Rattle.profile.specs.Profile.{offset_along, profile, found, passed as come_to, pass, passes}
+use Rattle.profile.specs.Profile.{offset_along, profile, passes}
+use Rattle.profile.proofs.AnyHandler as handler
 
 module _ (settings : Settings) (ray : Ray) (first : EdgePoint) where
   abbrev whole : SampleTree (Option EdgePoint)
@@ -37,52 +33,23 @@ module _ (settings : Settings) (ray : Ray) (first : EdgePoint) where
   pub none_passed : {s : Sampler} (xs : List Float) → Passed s s 0 first xs
   none_passed xs = start
 
-  -- what follows the pass n
-  onward : ℕ → List Float → EdgePoint → SampleTree (Option EdgePoint)
-  onward n xs q = passes settings ray (3 - (n + 1)) q (take n xs ++ projection ray.normal q.pos ∷ [])
-
-  -- what the peak of a profile comes to
-  at_peak : SourcePixel → List Float → SampleTree (Option EdgePoint)
-  at_peak c samples = done (come_to settings ray c samples)
-
   module _ {n : ℕ} (q : EdgePoint) (xs : List Float) {begin now : Sampler} (l : n < 3) (before : Passed begin now n q xs) where
-    turn : Left begin now whole (pass settings ray q.pos >>= on_some (onward n xs))
-    unfolding passes onward
-    turn = subst (λ (k : ℕ). Left begin now whole (passes settings ray k q (take n xs))) (one_less 3 n l) before
-
     -- a sample was rejected
     pub pass-rejected : {after : Sampler} → Samples now after (profile ray.normal ray.step q.pos) None → Samples begin after whole None
-    unfolding at_peak
-    pass-rejected ran = found_none (pass settings ray q.pos) (onward n xs) turn (found_none (profile ray.normal ray.step q.pos) (at_peak q.pos) start ran refl) refl
+    pass-rejected ran = lifted_end before ran (λ b h. handler.pass_broke (sampler_of begin) settings ray first q xs l b h)
 
     module _ {after : Sampler} (samples : List Float) (ran : Samples now after (profile ray.normal ray.step q.pos) (Some samples)) {z : Option Peak}
         (is : z ≡ peak settings ray.inverted ray.inward_differs samples) where
-      passed : Samples now after (pass settings ray q.pos) (found ray.normal ray.step q.pos z)
-      unfolding at_peak
-      passed = subst (λ (k : Option Peak). Samples now after (pass settings ray q.pos) (found ray.normal ray.step q.pos k)) (sym is)
-          (end (laws.found (profile ray.normal ray.step q.pos) (at_peak q.pos) start ran refl))
-
       -- the profile has no peak
       pub no-peak : z ≡ None → Samples begin after whole None
-      no-peak h = found_none (pass settings ray q.pos) (onward n xs) turn passed (ap (found ray.normal ray.step q.pos) h)
+      no-peak h = lifted_end before ran (λ b ran. handler.no-peak (sampler_of begin) settings ray first q xs l b samples ran is h)
 
       -- the pass has found a point, and its projection is in
       pub one_passed : {p : Peak} {c : SourcePixel} {x : Float} → length xs ≡ 3 → z ≡ Some p → c ≡ offset_along ray.normal ray.step q.pos p.offset → x ≡ projection ray.normal c
           → Passed begin after (n + 1) (edge_point c p.weight) (set xs n x)
-      unfolding onward
-      one_passed {p} {c} {x} len h hc hx =
-          let point : found ray.normal ray.step q.pos z ≡ Some (edge_point c p.weight) = ap (found ray.normal ray.step q.pos) h ∙ ap (λ (y : SourcePixel). Some (edge_point y p.weight)) (sym hc) in
-          let grown : take (n + 1) (set xs n x) ≡ take n xs ++ projection ray.normal c ∷ [] =
-          ap (λ (k : ℕ). take k (set xs n x)) (add-one n) ∙ take-suc-set xs n x (omega arith) ∙ ap (λ (y : Float). take n xs ++ y ∷ []) hx in
-          subst (λ (g : List Float). Left begin after whole (passes settings ray (3 - (n + 1)) (edge_point c p.weight) g)) (sym grown)
-          (laws.found (pass settings ray q.pos) (onward n xs) turn passed point)
+      one_passed len h hc hx = lifted before ran (λ b ran. handler.pass-done (sampler_of begin) settings ray first q xs l b samples ran is len h hc hx)
 
   -- all three are done
   pub all_passed : {n : ℕ} (q : EdgePoint) (xs : List Float) {begin now : Sampler} {r : Option EdgePoint} → n ≡ 3 → length xs ≡ 3 → Passed begin now n q xs
       → r ≡ aitken ray.normal ray.step q xs → Samples begin now whole r
-  unfolding passes
-  all_passed q xs {begin} {now} three len before is =
-      let all : take 3 xs ≡ xs = take_all 3 xs (omega arith) in
-      subst (λ (z : Option EdgePoint). Samples begin now whole z) (sym is)
-      (end (subst (λ (z : List Float). Left begin now whole (done (aitken ray.normal ray.step q z))) all
-      (subst (λ (k : ℕ). Left begin now whole (passes settings ray (3 - k) q (take k xs))) three before)))
+  all_passed q xs {begin} three len before is = lifted_here before (λ b. handler.all-passed (sampler_of begin) settings ray first q xs (omega arith) len b is)

@@ -1,5 +1,6 @@
 -- How the promise of a function that is lent a sampler follows its code: a sample is taken or a callee runs a bound step, and what is left of the tree goes on
--- to its end, or stops where a step ended in nothing or in an error. A proof of such a function uses these laws alone, and never looks at pixels, sheets or counts. Assumes nothing.
+-- to its end, or stops where a step ended in nothing or in an error. A proof of such a function uses these laws alone, and never looks at pixels, sheets or counts.
+-- `lifted` and its like say of the sampler what holds of every handler. Assumes nothing.
 use mathlib.Core.Path.{◌≡◌, refl, ap, ◌∙◌, subst}
 use Rattle.std.specs.Prelude.{Option, None, Some}
 use Rattle.std.specs.Prelude.{Result, Ok, Err}
@@ -36,34 +37,46 @@ same_sampler first now hp hs = rw (hp, hs) refl
 pub start : {A : Type 0} {s : Sampler} {t : SampleTree A} → Left s s t t
 start = record { photograph = refl; scene = refl; sheet = refl; copy = refl; leads = steps.start _ _ _ }
 
-module _ {A : Type 0} {first now : Sampler} {t : SampleTree A} where
-  -- the end
-  pub end : {a : A} → Left first now t (done a) → Samples first now t a
-  end left = record { photograph = left.photograph; scene = left.scene; sheet = left.sheet; copy = left.copy; runs = steps.end _ left.leads }
+-- ---- a law of every handler, said of the sampler: it samples as it did, and still has the same photograph, scene, sheet and copy
 
-  module _ {after : Sampler} where
-    -- a call ran all that is left
-    pub ended : {u : SampleTree A} {a : A} → Left first now t u → Samples now after u a → Samples first after t a
-    ended {u} {a} left ran = record {
-      photograph = ran.photograph ∙ left.photograph;
-      scene = ran.scene ∙ left.scene;
-      sheet = ran.sheet ∙ left.sheet;
-      copy = ran.copy ∙ left.copy;
-      runs = steps.ended _ left.leads
-          (subst (λ (ask : Handler State). Runs ask u a (state_of now) (state_of after)) (same_sampler first now left.photograph left.scene) ran.runs);
-    }
+-- of what is left, with no call
+module _ {A : Type 0} {first now : Sampler} {t v : SampleTree A} (left : Left first now t v) where
+  pub lifted_here : {a : A} → (Leads (sampler_of first) t (state_of first) v (state_of now) → Runs (sampler_of first) t a (state_of first) (state_of now)) → Samples first now t a
+  lifted_here law = record { photograph = left.photograph; scene = left.scene; sheet = left.sheet; copy = left.copy; runs = law left.leads }
 
-    -- a call ran a first step
-    pub called : {B : Type 0} {r : B} (u : SampleTree B) (f : B → SampleTree A) → Left first now t (u >>= f) → Samples now after u r → Left first after t (f r)
-    called {r = r} u f left ran = record {
-      photograph = ran.photograph ∙ left.photograph;
-      scene = ran.scene ∙ left.scene;
-      sheet = ran.sheet ∙ left.sheet;
-      copy = ran.copy ∙ left.copy;
-      leads = steps.then _ left.leads
-          (steps.called _ u f
-          (subst (λ (ask : Handler State). Runs ask u r (state_of now) (state_of after)) (same_sampler first now left.photograph left.scene) ran.runs));
-    }
+-- the end
+pub end : {A : Type 0} {first now : Sampler} {t : SampleTree A} {a : A} → Left first now t (done a) → Samples first now t a
+end left = lifted_here left (λ l. steps.end _ l)
+
+-- of what is left and of a call, after which t goes on, or ends
+module _ {A B : Type 0} {first now after : Sampler} {t v : SampleTree A} {u : SampleTree B} {r : B} (left : Left first now t v) (ran : Samples now after u r) where
+  pub lifted : {w : SampleTree A}
+      → (Leads (sampler_of first) t (state_of first) v (state_of now) → Runs (sampler_of first) u r (state_of now) (state_of after) → Leads (sampler_of first) t (state_of first) w (state_of after))
+      → Left first after t w
+  lifted law = record {
+    photograph = ran.photograph ∙ left.photograph;
+    scene = ran.scene ∙ left.scene;
+    sheet = ran.sheet ∙ left.sheet;
+    copy = ran.copy ∙ left.copy;
+    leads = law left.leads
+        (subst (λ (ask : Handler State). Runs ask u r (state_of now) (state_of after)) (same_sampler first now left.photograph left.scene) ran.runs);
+  }
+
+  pub lifted_end : {a : A}
+      → (Leads (sampler_of first) t (state_of first) v (state_of now) → Runs (sampler_of first) u r (state_of now) (state_of after) → Runs (sampler_of first) t a (state_of first) (state_of after))
+      → Samples first after t a
+  lifted_end law = end (lifted (λ l h. steps.at_end _ (law l h)))
+
+-- ---- the laws of Steps, so said
+
+module _ {A : Type 0} {first now : Sampler} {t : SampleTree A} {after : Sampler} where
+  -- a call ran all that is left
+  pub ended : {u : SampleTree A} {a : A} → Left first now t u → Samples now after u a → Samples first after t a
+  ended left ran = lifted_end left ran (λ l h. steps.ended _ l h)
+
+  -- a call ran a first step
+  pub called : {B : Type 0} {r : B} (u : SampleTree B) (f : B → SampleTree A) → Left first now t (u >>= f) → Samples now after u r → Left first after t (f r)
+  called u f left ran = lifted left ran (λ l h. steps.then _ l (steps.called _ u f h))
 
 -- a sample at the place that the camera's steps carry q to is one at q
 pub sampled : {before after : Sampler} (q : SourcePixel) {at : Option SourcePixel} {r : Option Float} → at ≡ carried_through before.scene.view q → SampledAt before after at r
@@ -82,19 +95,19 @@ sampled {before} {after} q {at} {r} is ran = record {
 module _ {A B : Type 0} {first now after : Sampler} {t : SampleTree (Option A)} {r : Option B} (u : SampleTree (Option B)) (f : B → SampleTree (Option A))
     (left : Left first now t (u >>= on_some f)) (ran : Samples now after u r) where
   pub found : {b : B} → r ≡ Some b → Left first after t (f b)
-  found is = subst (λ (z : Option B). Left first after t (on_some f z)) is (called u (on_some f) left ran)
+  found is = lifted left ran (λ l h. steps.found _ u f l h is)
 
   pub found_none : r ≡ None → Samples first after t None
-  found_none is = end (subst (λ (z : Option B). Left first after t (on_some f z)) is (called u (on_some f) left ran))
+  found_none is = lifted_end left ran (λ l h. steps.found_none _ u f l h is)
 
 -- a first step that ended well, and one that ended in an error
 module _ {A B E : Type 0} {first now after : Sampler} {t : SampleTree (Result A E)} {r : Result B E} (u : SampleTree (Result B E)) (f : B → SampleTree (Result A E))
     (left : Left first now t (u >>= on_ok f)) (ran : Samples now after u r) where
   pub passed : {b : B} → r ≡ Ok b → Left first after t (f b)
-  passed is = subst (λ (z : Result B E). Left first after t (on_ok f z)) is (called u (on_ok f) left ran)
+  passed is = lifted left ran (λ l h. steps.passed _ u f l h is)
 
   pub failed : {e : E} → r ≡ Err e → Samples first after t (Err e)
-  failed is = end (subst (λ (z : Result B E). Left first after t (on_ok f z)) is (called u (on_ok f) left ran))
+  failed is = lifted_end left ran (λ l h. steps.failed _ u f l h is)
 
 -- what it ends in is what the step is worth over the sampler's photograph
 pub samples_value : {A : Type 0} {first now : Sampler} {t : SampleTree A} {a : A} → Samples first now t a

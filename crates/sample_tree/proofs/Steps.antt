@@ -4,13 +4,16 @@ use mathlib.Core.Path.{◌≡◌, refl, sym, ap, ◌∙◌}
 use Rattle.photograph.specs.Photographs.{Photo}
 use Rattle.footprint.specs.declared.Scene.{Scene}
 use Rattle.pixel.specs.declared.SourcePixel.{SourcePixel}
-use Rattle.std.specs.Prelude.{Option}
+use Rattle.std.specs.Prelude.{Option, None, Some}
+use Rattle.std.specs.Prelude.{Result, Ok, Err}
 use lib.Ieee.{Float}
 use Rattle.footprint.specs.Footprints.{scene_footprint}
 use Rattle.sampling.specs.Marks.{Buffers, ReadsSample}
 use Rattle.sample_tree.specs.declared.Meter.{Meter}
 use Rattle.sample_tree.specs.Meters.{increment}
 use Rattle.sample_tree.specs.SampleTree.{SampleTree, done, sample, one_sample, ◌>>=◌}
+use Rattle.sample_tree.specs.Options.{on_some}
+use Rattle.sample_tree.specs.Results.{on_ok}
 use Rattle.sample_tree.specs.Run.{Ran, Handler, run, state, sampler, Runs}
 
 -- a bound step: the second is run from where the first ends
@@ -36,6 +39,11 @@ module _ {S A : Type 0} (ask : Handler S) where
   unfolding run
   end f = record { runs = f.leads }
 
+  -- and back
+  pub at_end : {t : SampleTree A} {a : A} {s s' : S} → Runs ask t a s s' → Leads ask t s (done a) s'
+  unfolding run
+  at_end h = record { leads = h.runs }
+
   -- a call ran all that is left
   pub ended : {t u : SampleTree A} {a : A} {s s' s'' : S} → Leads ask t s u s' → Runs ask u a s' s'' → Runs ask t a s s''
   ended f h = record { runs = f.leads ∙ h.runs }
@@ -50,6 +58,24 @@ module _ {S A : Type 0} (ask : Handler S) where
   pub sampled : (q : SourcePixel) (k : Option Float → SampleTree A) {r : Option Float} {s s' : S} → Runs ask (one_sample q) r s s' → Leads ask (sample q k) s (k r) s'
   unfolding ◌>>=◌
   sampled q k h = called ask (one_sample q) k h
+
+-- a first step that found something, and one that found nothing
+module _ {S A B : Type 0} (ask : Handler S) {s s' s'' : S} {t : SampleTree (Option A)} {r : Option B} (u : SampleTree (Option B)) (f : B → SampleTree (Option A))
+    (left : Leads ask t s (u >>= on_some f) s') (ran : Runs ask u r s' s'') where
+  pub found : {b : B} → r ≡ Some b → Leads ask t s (f b) s''
+  found is = rw is at (then ask left (called ask u (on_some f) ran))
+
+  pub found_none : r ≡ None → Runs ask t None s s''
+  found_none is = end ask (rw is at (then ask left (called ask u (on_some f) ran)))
+
+-- a first step that ended well, and one that ended in an error
+module _ {S A B E : Type 0} (ask : Handler S) {s s' s'' : S} {t : SampleTree (Result A E)} {r : Result B E} (u : SampleTree (Result B E)) (f : B → SampleTree (Result A E))
+    (left : Leads ask t s (u >>= on_ok f) s') (ran : Runs ask u r s' s'') where
+  pub passed : {b : B} → r ≡ Ok b → Leads ask t s (f b) s''
+  passed is = rw is at (then ask left (called ask u (on_ok f) ran))
+
+  pub failed : {e : E} → r ≡ Err e → Runs ask t (Err e) s s''
+  failed is = end ask (rw is at (then ask left (called ask u (on_ok f) ran)))
 
 -- the refinement's handler: what it shows, marks and copies, and one more that is counted
 pub shown : (e : Scene) (p : Photo) (q : SourcePixel) {r : Option Float} {b b' : Buffers} {m m' : Meter} → ReadsSample p e.width (scene_footprint e q) r b b' → m' ≡ increment m
