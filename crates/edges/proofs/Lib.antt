@@ -1,2 +1,3 @@
 -- What the crates above cite.
 pub mod Valid
+pub mod Fits

@@ -2,7 +2,7 @@
 #![tactic(auto)]
 
 ghost use Rattle.std.specs.Prelude.{◌≡◌};
-ghost use Rattle.edges.specs.Edges.{with_edge, no_edges, no_stat};
+ghost use Rattle.edges.specs.Edges.{with_fit, no_edges, no_stat};
 
 use fit::{EdgeFit, EdgeStat};
 use line::Line2;
@@ -37,15 +37,21 @@ impl Edges {
         }
     }
 
-    // The edges with edge e put in its place, and as they are where e is 4 or more.
-    pub fn with(self, e: usize, fit: EdgeFit) -> Edges
-        ensures { result ≡ with_edge e self fit }
+    // The edges with edge e put in its place, and as they are where e is 4 or more. What refuses the edge refuses them
+    // all, and else what refused those before it.
+    pub fn with<R: Drop>(
+        edges: Result<Edges, R>,
+        e: usize,
+        fit: Result<EdgeFit, R>,
+    ) -> Result<Edges, R>
+        ensures { result ≡ with_fit e edges fit }
     {
-        let mut edges = self;
+        let fit = fit?;
+        let mut edges = edges?;
         if e < 4 {
             edges.lines[e] = fit.line;
             edges.edge_stats[e] = fit.stat;
         }
-        edges
+        Ok(edges)
     }
 }
