@@ -52,3 +52,8 @@ refined_corners q es = record {
 
 abbrev pub round_end : List SourcePixel → Edges → Answer
 round_end q es = when ltb (line_count es) 2 then Err refusal.Thin else Ok (refined_corners q es)
+
+-- where the edges may be refused: what refuses them ends the round before
+abbrev pub round_ended : {R : Type 0} → List SourcePixel → Result Edges R → Result Answer R
+round_ended q (Err r) = Err r
+round_ended q (Ok es) = Ok (round_end q es)

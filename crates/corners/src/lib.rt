@@ -2,7 +2,7 @@
 #![tactic(auto)]
 
 ghost use Rattle.std.specs.Prelude.{◌≡◌, ◌<◌};
-ghost use Rattle.corners.specs.Corners.{crossed_at, line_count, nothing_refined, refined_corners, round_end};
+ghost use Rattle.corners.specs.Corners.{crossed_at, line_count, nothing_refined, refined_corners, round_end, round_ended};
 
 use edges::Edges;
 use fit::EdgeStat;
@@ -74,12 +74,19 @@ fn refined_corners(q: [SourcePixel; 4], edges: Edges) -> RefinedCorners
     }
 }
 
-// The end of a round that started from q: its corners, or too few edges with a line.
-pub fn round_end(q: [SourcePixel; 4], edges: Edges) -> Answer
+// The end of a round whose edges are not refused: its corners, or too few edges with a line.
+fn ended(q: [SourcePixel; 4], edges: Edges) -> Answer
     ensures { result ≡ round_end q edges }
 {
     if line_count(edges) < 2 {
         return Err(Refusal::Thin);
     }
     Ok(refined_corners(q, edges))
+}
+
+// The end of a round that started from q: what refuses its edges, and else its corners, or too few edges with a line.
+pub fn round_end<R>(q: [SourcePixel; 4], edges: Result<Edges, R>) -> Result<Answer, R>
+    ensures { result ≡ round_ended q edges }
+{
+    Ok(ended(q, edges?))
 }
