@@ -45,8 +45,8 @@ fn fit_edges(
 {
     let mut edges = Edges::none();
     for e in 0..4 {
-        let fit = edge::refine_edge(sampler, found, plan, modules, side_of(map, q, e))?;
-        edges = edges.with(e, fit);
+        let fit = edge::refine_edge(sampler, found, plan, modules, side_of(map, q, e));
+        edges = Edges::with(Ok(edges), e, fit)?;
     }
     Ok(edges)
 }
@@ -66,6 +66,6 @@ pub fn refine_round(
 {
     found.clear();
     let map = quad::square_to_quad(q)?;
-    let edges = fit_edges(sampler, found, plan, modules, map, q)?;
-    corners::round_end(q, edges)
+    let edges = fit_edges(sampler, found, plan, modules, map, q);
+    corners::round_end(q, edges)?
 }
