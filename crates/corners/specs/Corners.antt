@@ -1,9 +1,11 @@
 -- refine.rs, what a round's edges come to: the refusal under two lines, the corners where the edges
 -- cross, and the answer (606 to 627). Definitions only, to be believed.
-use Rattle.std.specs.Prelude.{ℕ, ◌+◌, ◌%◌, List, [], ◌∷◌, ltb, get_or, Option, None, is_some, unwrap_or, option_and_then, Result, Ok, Err, count_by, false, replicate}
+use Rattle.std.specs.Prelude.{ℕ, ◌≡◌, ◌+◌, ◌%◌, List, [], ◌∷◌, ltb, get_or, Option, None, is_some, unwrap_or, option_and_then, Result, Ok, Err, count_by, false, replicate}
+use Rattle.std.specs.Result.{result_unwrap_or}
 use Rattle.prelude.specs.Prelude.{when◌then◌else◌}
 use Rattle.number.specs.declared.Refusal.{Refusal}
 use Rattle.number.specs.declared.Refusal.TheVariants as refusal
+use Rattle.number.specs.Numbers.{number_of}
 use Rattle.ieee.specs.Floats.{f0}
 use Rattle.pixel.specs.Pixels.{source, corner}
 use Rattle.pixel.specs.declared.SourcePixel.{SourcePixel}
@@ -12,6 +14,7 @@ use Rattle.line.specs.Line.{crossing}
 use Rattle.edges.specs.declared.Edges.{Edges}
 use Rattle.edges.specs.Edges.{no_stat}
 use Rattle.corners.specs.declared.RefinedCorners.{RefinedCorners}
+use Rattle.corners.specs.declared.NumberedAnswer.{NumberedAnswer}
 
 -- ---- answers
 
@@ -21,6 +24,14 @@ Answer = Result RefinedCorners Refusal
 -- what stands for the corners of a refusal: zeros, nothing counted, and flags off
 abbrev pub nothing_refined : RefinedCorners
 nothing_refined = record { corners = replicate 4 (source f0 f0); edge_stats = replicate 4 no_stat; corner_refined = replicate 4 false }
+
+-- by its number: 0 and the corners, or the number of a refusal and what stands for them
+abbrev pub numbered : Answer → NumberedAnswer
+numbered a = record { number = number_of a; refined = result_unwrap_or a nothing_refined }
+
+-- x is converted to what the answer a is, as a itself is
+abbrev pub ConvertsAs : {A : Type 0} → (A → NumberedAnswer → Type 0) → A → Answer → Type 0
+ConvertsAs converts x a = (given : NumberedAnswer) → converts x given → given ≡ numbered a
 
 -- ---- the corners
 

@@ -2,7 +2,7 @@
 #![tactic(auto)]
 
 ghost use Rattle.std.specs.Prelude.{◌≡◌, ◌<◌};
-ghost use Rattle.corners.specs.Corners.{crossed_at, line_count, nothing_refined, refined_corners, round_end, round_ended};
+ghost use Rattle.corners.specs.Corners.{crossed_at, line_count, nothing_refined, numbered, refined_corners, round_end, round_ended};
 
 use edges::Edges;
 use fit::EdgeStat;
@@ -29,6 +29,24 @@ pub fn nothing_refined() -> RefinedCorners
         corners: [SourcePixel(0.0, 0.0); 4],
         edge_stats: [edges::no_stat(); 4],
         corner_refined: [false; 4],
+    }
+}
+
+// An answer by its number, as C is given it: 0 and the corners, or the number of a refusal and what stands for them.
+#[derive(Clone, Copy)]
+pub struct NumberedAnswer {
+    pub number: u32,
+    pub refined: RefinedCorners,
+}
+
+impl From<Answer> for NumberedAnswer {
+    ghost from_gives = { λ answer given. given ≡ numbered answer };
+
+    fn from(answer: Answer) -> NumberedAnswer {
+        NumberedAnswer {
+            number: number::number_of(&answer),
+            refined: answer.unwrap_or(nothing_refined()),
+        }
     }
 }
 
