@@ -9,6 +9,7 @@ use Rattle.pixel.specs.declared.SourcePixel.{SourcePixel}
 use Rattle.fit.specs.declared.EdgeStat.{EdgeStat}
 use Rattle.edges.specs.Edges.{no_stat}
 use Rattle.corners.specs.declared.RefinedCorners.{RefinedCorners}
+use Rattle.corners.specs.declared.NumberedAnswer.{NumberedAnswer}
 use Rattle.corners.specs.Corners.{Answer, nothing_refined}
 use Rattle.c_buffers.specs.Buffers.{with_place_at}
 
@@ -37,11 +38,17 @@ with_flags fs out = set (set (set (set out 16 (flag_of fs 0)) 17 (flag_of fs 1))
 abbrev pub with_counts : RefinedCorners → List ℕ → List ℕ
 with_counts r out = with_flags r.corner_refined (with_stats r.edge_stats out)
 
+-- The number of an answer is returned, its corners take the places from ps to ps', and the rest of it the counts from ns to ns'.
+pub record WrittenNumbered (a : NumberedAnswer) (n : ℕ) (ps ps' : List Float) (ns ns' : List ℕ) : Type 0 where
+  pub number : n ≡ a.number
+  pub places : ps' ≡ with_corners a.refined.corners ps
+  pub counts : ns' ≡ with_counts a.refined ns
+
 -- what is written of an answer: zeros, nothing counted and flags off where it is a refusal
 abbrev pub written : Answer → RefinedCorners
 written a = result_unwrap_or a nothing_refined
 
--- An answer's number is returned, its corners take the places from ps to ps', and the rest of it the counts from ns to ns'.
+-- The same of an answer without its number.
 pub record Written (a : Answer) (n : ℕ) (ps ps' : List Float) (ns ns' : List ℕ) : Type 0 where
   pub number : n ≡ number_of a
   pub places : ps' ≡ with_corners (written a).corners ps

@@ -3,9 +3,10 @@
 
 ghost use Rattle.std.specs.Prelude.{◌≡◌, set};
 ghost use Rattle.prelude.specs.Prelude.{bit as bit_of};
-ghost use Rattle.c_answers.specs.Answers.{with_corners, with_stat, with_stats, with_flags, with_counts, Written};
+ghost use Rattle.c_answers.specs.Answers.{with_corners, with_stat, with_stats, with_flags, Written, WrittenNumbered};
+ghost use Rattle.corners.specs.Corners.{Answer, ConvertsAs};
 
-use corners::{Answer, RefinedCorners};
+use corners::NumberedAnswer;
 use fit::EdgeStat;
 use pixel::SourcePixel;
 
@@ -59,20 +60,17 @@ fn put_flags(out: &mut [u32], fs: [bool; 4])
     put_flag(out, 19, fs[3]);
 }
 
-// Writes corners and counts, of an answer or of what is written in its place.
-pub fn put_refined(refined: RefinedCorners, places: &mut [f64], counts: &mut [u32])
-    ensures places_after { places.new ≡ with_corners refined.corners places.old }
-    ensures counts_after { counts.new ≡ with_counts refined counts.old }
+// Writes an answer's corners and counts, and gives its number: of a `NumberedAnswer` any corners beside any number, and of an
+// `Answer` zeros for a refusal.
+pub fn put_answer<A: Into<NumberedAnswer>>(answer: A, places: &mut [f64], counts: &mut [u32]) -> u32
+    ensures numbered { (given : _) × A.converts answer given
+        × WrittenNumbered given result places.old places.new counts.old counts.new }
+    ensures written { (a : Answer) → ConvertsAs A.converts answer a
+        → Written a result places.old places.new counts.old counts.new }
 {
-    put_corners(places, refined.corners);
-    put_stats(counts, refined.edge_stats);
-    put_flags(counts, refined.corner_refined);
-}
-
-// Writes an answer's corners and counts, or zeros for a refusal, and gives its number.
-pub fn put_answer(a: Answer, places: &mut [f64], counts: &mut [u32]) -> u32
-    ensures { Written a result places.old places.new counts.old counts.new }
-{
-    put_refined(a.unwrap_or(corners::nothing_refined()), places, counts);
-    number::number_of(&a)
+    let given: NumberedAnswer = answer.into();
+    put_corners(places, given.refined.corners);
+    put_stats(counts, given.refined.edge_stats);
+    put_flags(counts, given.refined.corner_refined);
+    given.number
 }
