@@ -6,13 +6,15 @@ use native.Mathlib.Omega.{arith}
 use lib.Ieee.{binary64, to_bits}
 use lib.ListN.{length, length-append, get_or}
 use Rattle.prelude.specs.Prelude.{bit}
+use Rattle.prelude.proofs.Branches.{either}
 use Rattle.number.specs.Numbers as number
 use Rattle.pixel.specs.Pixels.{corner}
 use Rattle.pixel.specs.declared.SourcePixel.{SourcePixel}
 use Rattle.fit.specs.declared.EdgeStat.{EdgeStat}
 use Rattle.fit.specs.Fit.{stat}
 use Rattle.corners.specs.declared.RefinedCorners.{RefinedCorners}
-use Rattle.std.specs.Prelude.{Result, Ok, Err}
+use Rattle.corners.specs.declared.NumberedAnswer.{NumberedAnswer}
+use Rattle.std.specs.Prelude.{eqb}
 use Rattle.text.proofs.Digits.{length-decimal, length-hexadecimal}
 use Rattle.report.specs.Lines.{result_line, corner_line, edge_line, each_of_four, corner_lines, edge_lines, numbered_lines}
 
@@ -38,9 +40,11 @@ length_edges r =
     length-four (λ i. edge_line i (get_or r.edge_stats i (stat 0 0 0 false))) 110
     (λ i. length-edge i (get_or r.edge_stats i (stat 0 0 0 false)))
 
-pub length-answer : (a : Result RefinedCorners ℕ) → length (numbered_lines a) ≤ 800
-length-answer (Ok r) =
-    let lines = corner_lines r ++ edge_lines r in
-    rw (length-append (result_line number.answer) lines, length-append (corner_lines r) (edge_lines r))
-    (omega (arith, length-result number.answer, length_corners r, length_edges r))
-length-answer (Err n) = omega (arith, length-result n)
+pub length-answer : (a : NumberedAnswer) → length (numbered_lines a) ≤ 800
+length-answer a =
+    let lines = corner_lines a.refined ++ edge_lines a.refined in
+    let long : length (result_line a.number ++ lines) ≤ 800 =
+    rw (length-append (result_line a.number) lines, length-append (corner_lines a.refined) (edge_lines a.refined))
+    (omega (arith, length-result a.number, length_corners a.refined, length_edges a.refined)) in
+    let short : length (result_line a.number) ≤ 800 = omega (arith, length-result a.number) in
+    either (λ (text : List ℕ). length text ≤ 800) (eqb a.number number.answer) long short

@@ -1,14 +1,16 @@
 -- The lines of an answer stand whole in a buffer of 1024 bytes, and are all that `io` counts there. Assumes nothing.
 use Prim.Native.Nat.{ℕ, ◌≤◌, min}
-use mathlib.Core.Path.{◌≡◌, sym}
+use mathlib.Core.Path.{◌≡◌, refl, sym, ap, subst, ◌∙◌}
 use mathlib.Core.List.{List}
 use native.Mathlib.Omega.{arith}
 use lib.ListN.{length}
 use lib.Seq.{length-take-le, length-sets, sets}
 use Rattle.io.specs.Counts.{IsPrefixLen}
-use Rattle.std.specs.Prelude.{Result}
-use Rattle.corners.specs.declared.RefinedCorners.{RefinedCorners}
-use Rattle.report.specs.Lines.{numbered_lines}
+use Rattle.std.specs.Prelude.{Ok, Err}
+use Rattle.number.specs.declared.Refusal.TheVariants.{Size, Photograph, Grid, Scale, Corner, Lens, Sheet, Quad, Thin, Line, Overflow, Card, Points, Pairing, Finite, Weight, Outside, Parallel, Profile, Place, Window, Room, Form, Count, Settings}
+use Rattle.corners.specs.declared.NumberedAnswer.{NumberedAnswer}
+use Rattle.corners.specs.Corners.{Answer, numbered}
+use Rattle.report.specs.Lines.{numbered_lines, answer_lines}
 use Rattle.report.specs.Puts.{Puts}
 use Rattle.report.proofs.Lengths.{length-answer}
 
@@ -16,9 +18,41 @@ use Rattle.report.proofs.Lengths.{length-answer}
 pub counted : (n : ℕ) (s : List ℕ) → n ≤ length s → IsPrefixLen n s
 counted n s h = (h, sym (length-take-le n s h))
 
-pub whole : (a : Result RefinedCorners ℕ) (before after : List ℕ) (n : ℕ) → length before ≡ 1024 → after ≡ sets before 0 (numbered_lines a) → n ≡ min (length (numbered_lines a)) 1024
+pub whole : (a : NumberedAnswer) (before after : List ℕ) (n : ℕ) → length before ≡ 1024 → after ≡ sets before 0 (numbered_lines a) → n ≡ min (length (numbered_lines a)) 1024
     → IsPrefixLen n after × Puts before 0 (numbered_lines a) after n
 whole a before after n long wrote on =
     let room = length-answer a in
     let kept : length after ≡ length before = rw wrote (length-sets before 0 (numbered_lines a)) in
     (counted n after (omega arith), record { wrote = wrote; on = omega arith })
+
+-- by its number an answer has the lines that it has: no refusal has the number 0
+pub same_lines : (a : Answer) → numbered_lines (numbered a) ≡ answer_lines a
+same_lines (Ok r) = refl
+same_lines (Err Size) = refl
+same_lines (Err Photograph) = refl
+same_lines (Err Grid) = refl
+same_lines (Err Scale) = refl
+same_lines (Err Corner) = refl
+same_lines (Err Lens) = refl
+same_lines (Err Sheet) = refl
+same_lines (Err Quad) = refl
+same_lines (Err Thin) = refl
+same_lines (Err Line) = refl
+same_lines (Err Overflow) = refl
+same_lines (Err Card) = refl
+same_lines (Err Points) = refl
+same_lines (Err Pairing) = refl
+same_lines (Err Finite) = refl
+same_lines (Err Weight) = refl
+same_lines (Err Outside) = refl
+same_lines (Err Parallel) = refl
+same_lines (Err Profile) = refl
+same_lines (Err Place) = refl
+same_lines (Err Window) = refl
+same_lines (Err Room) = refl
+same_lines (Err Form) = refl
+same_lines (Err Count) = refl
+same_lines (Err Settings) = refl
+
+pub puts_answer : {given : NumberedAnswer} (a : Answer) {before after : List ℕ} {n : ℕ} → given ≡ numbered a → Puts before 0 (numbered_lines given) after n → Puts before 0 (answer_lines a) after n
+puts_answer a {before = before} {after = after} {n = n} is puts = subst (λ (text : List ℕ). Puts before 0 text after n) (ap numbered_lines is ∙ same_lines a) puts

@@ -3,10 +3,10 @@
 -- and after 0, for each of the indices 0 to 3,
 --   corner INDEX X Y FLAG       x and y as the 16 hexadecimal digits of their bits
 --   edge INDEX PROBED FIT DROPPED VALID
-use Rattle.std.specs.Prelude.{ℕ, zero, suc, Bool, false, List, [], ◌∷◌, ◌++◌, get_or, Result, Ok, Err}
+use Rattle.std.specs.Prelude.{ℕ, zero, suc, Bool, false, List, [], ◌∷◌, ◌++◌, eqb, get_or, Ok, Err}
 use Rattle.std.specs.Float.{binary64}
 use Rattle.std.specs.Float.Ieee.{to_bits}
-use Rattle.prelude.specs.Prelude.{bit}
+use Rattle.prelude.specs.Prelude.{when◌then◌else◌, bit}
 use Rattle.number.specs.Numbers as number
 use Rattle.text.specs.Text.{decimal, hexadecimal}
 use Rattle.pixel.specs.Pixels.{corner}
@@ -14,6 +14,7 @@ use Rattle.pixel.specs.declared.SourcePixel.{SourcePixel}
 use Rattle.fit.specs.declared.EdgeStat.{EdgeStat}
 use Rattle.fit.specs.Fit.{stat}
 use Rattle.corners.specs.declared.RefinedCorners.{RefinedCorners}
+use Rattle.corners.specs.declared.NumberedAnswer.{NumberedAnswer}
 use Rattle.corners.specs.Corners.{Answer}
 
 -- ---- lines
@@ -55,16 +56,12 @@ edge_lines r = each_of_four (λ i. edge_line i (get_or r.edge_stats i (stat 0 0 
 
 -- ---- an answer
 
--- its number
-abbrev pub number_in : Result RefinedCorners ℕ → ℕ
-number_in (Ok r) = number.answer
-number_in (Err n) = n
-
--- whatever number refuses it
-abbrev pub numbered_lines : Result RefinedCorners ℕ → List ℕ
-numbered_lines (Ok r) = result_line number.answer ++ (corner_lines r ++ edge_lines r)
-numbered_lines (Err n) = result_line n
+-- whatever its number: the corners and edges have lines behind 0 alone
+abbrev pub numbered_lines : NumberedAnswer → List ℕ
+numbered_lines a =
+    when eqb a.number number.answer then result_line a.number ++ (corner_lines a.refined ++ edge_lines a.refined) else
+    result_line a.number
 
 abbrev pub answer_lines : Answer → List ℕ
-answer_lines (Ok r) = numbered_lines (Ok r)
-answer_lines (Err refusal) = numbered_lines (Err (number.number refusal))
+answer_lines (Ok r) = result_line number.answer ++ (corner_lines r ++ edge_lines r)
+answer_lines (Err refusal) = result_line (number.number refusal)

@@ -1,7 +1,6 @@
 // The lines that are printed of an answer, as text in a buffer.
 #![tactic(auto)]
 
-ghost use Rattle.std.specs.Prelude.{◌≡◌};
 ghost use Rattle.io.specs.Counts.{IsPrefixLen};
 ghost use Rattle.fields.specs.Output.{Writes};
 ghost use Rattle.report.specs.Lines.{
@@ -10,13 +9,13 @@ ghost use Rattle.report.specs.Lines.{
   edge_line,
   corner_lines,
   edge_lines,
-  number_in,
   numbered_lines,
   answer_lines,
 };
 ghost use Rattle.report.specs.Puts.{Puts};
+ghost use Rattle.corners.specs.Corners.{Answer, ConvertsAs};
 
-use corners::{Answer, RefinedCorners};
+use corners::{NumberedAnswer, RefinedCorners};
 use fields::Output;
 use fit::EdgeStat;
 use pixel::SourcePixel;
@@ -74,45 +73,28 @@ fn put_edges(out: &mut Output<'_>, r: RefinedCorners)
     }
 }
 
-// The number of an answer, or the one that refuses it.
-fn number_in(answer: Result<RefinedCorners, u32>) -> u32
-    ensures { result ≡ number_in answer }
-{
-    match answer {
-        Ok(_) => number::ANSWER,
-        Err(number) => number,
-    }
-}
-
-// Writes an answer's lines.
-fn put_answer(out: &mut Output<'_>, answer: Result<RefinedCorners, u32>)
+// Writes an answer's lines: those of its corners and edges behind 0 alone.
+fn put_answer(out: &mut Output<'_>, answer: NumberedAnswer)
     ensures { Writes out.old out.new (numbered_lines answer) }
 {
-    put_result(out, number_in(answer));
-    if let Ok(refined) = answer {
-        put_corners(out, refined);
-        put_edges(out, refined);
+    put_result(out, answer.number);
+    if answer.number == number::ANSWER {
+        put_corners(out, answer.refined);
+        put_edges(out, answer.refined);
     }
 }
 
-// Writes an answer's lines to the front of `buffer`, and answers how many bytes they take. What refuses the answer is a
-// number, of which callers may pass any.
-pub fn numbered_lines(answer: Result<RefinedCorners, u32>, buffer: &mut [u8; 1024]) -> usize
+// Writes an answer's lines to the front of `buffer`, and answers how many bytes they take: an `Answer`, or a `NumberedAnswer`
+// with any number.
+pub fn answer_lines<A: Into<NumberedAnswer>>(answer: A, buffer: &mut [u8; 1024]) -> usize
     ensures prefix_len { IsPrefixLen result buffer.new }
-    ensures puts { Puts buffer.old 0 (numbered_lines answer) buffer.new result }
+    ensures numbered { (given : _) × A.converts answer given
+        × Puts buffer.old 0 (numbered_lines given) buffer.new result }
+    ensures puts { (a : Answer) → ConvertsAs A.converts answer a
+        → Puts buffer.old 0 (answer_lines a) buffer.new result }
 {
+    let given: NumberedAnswer = answer.into();
     let mut out = Output::new(buffer);
-    put_answer(&mut out, answer);
+    put_answer(&mut out, given);
     out.at
-}
-
-// The same of an answer that a refusal refuses, by its number.
-pub fn answer_lines(answer: Answer, buffer: &mut [u8; 1024]) -> usize
-    ensures prefix_len { IsPrefixLen result buffer.new }
-    ensures puts { Puts buffer.old 0 (answer_lines answer) buffer.new result }
-{
-    match answer {
-        Ok(refined) => numbered_lines(Ok(refined), buffer),
-        Err(refusal) => numbered_lines(Err(u32::from(refusal)), buffer),
-    }
 }
