@@ -38,7 +38,7 @@ with_flags fs out = set (set (set (set out 16 (flag_of fs 0)) 17 (flag_of fs 1))
 abbrev pub with_counts : RefinedCorners → List ℕ → List ℕ
 with_counts r out = with_flags r.corner_refined (with_stats r.edge_stats out)
 
--- The number of an answer is returned, its corners take the places from ps to ps', and the rest of it the counts from ns to ns'.
+-- A number is returned; the corners beside it take the places from ps to ps', and the rest the counts from ns to ns'.
 pub record WrittenNumbered (a : NumberedAnswer) (n : ℕ) (ps ps' : List Float) (ns ns' : List ℕ) : Type 0 where
   pub number : n ≡ a.number
   pub places : ps' ≡ with_corners a.refined.corners ps
@@ -48,7 +48,7 @@ pub record WrittenNumbered (a : NumberedAnswer) (n : ℕ) (ps ps' : List Float) 
 abbrev pub written : Answer → RefinedCorners
 written a = result_unwrap_or a nothing_refined
 
--- The same of an answer without its number.
+-- An answer's number is returned, its corners take the places from ps to ps', and the rest of it the counts from ns to ns'.
 pub record Written (a : Answer) (n : ℕ) (ps ps' : List Float) (ns ns' : List ℕ) : Type 0 where
   pub number : n ≡ number_of a
   pub places : ps' ≡ with_corners (written a).corners ps

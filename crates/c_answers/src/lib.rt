@@ -62,6 +62,7 @@ fn put_flags(out: &mut [u32], fs: [bool; 4])
 
 // Writes an answer's corners and counts, and gives its number: of a `NumberedAnswer` any corners beside any number, and of an
 // `Answer` zeros for a refusal.
+#[tactic(auto, using(crate::proofs::Written::written_numbered))]
 pub fn put_answer<A: Into<NumberedAnswer>>(answer: A, places: &mut [f64], counts: &mut [u32]) -> u32
     ensures numbered { (given : _) × A.converts answer given
         × WrittenNumbered given result places.old places.new counts.old counts.new }
