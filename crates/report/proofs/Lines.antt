@@ -5,9 +5,11 @@ use mathlib.Core.List.{List}
 use native.Mathlib.Omega.{arith}
 use lib.ListN.{length}
 use lib.Seq.{length-take-le, length-sets, sets}
+use borrow.Author.Tests.{ne_eqb}
 use Rattle.io.specs.Counts.{IsPrefixLen}
 use Rattle.std.specs.Prelude.{Ok, Err}
-use Rattle.number.specs.declared.Refusal.TheVariants.{Size, Photograph, Grid, Scale, Corner, Lens, Sheet, Quad, Thin, Line, Overflow, Card, Points, Pairing, Finite, Weight, Outside, Parallel, Profile, Place, Window, Room, Form, Count, Settings}
+use Rattle.number.specs.Numbers.{number}
+use Rattle.number.proofs.Numbers.{number_positive}
 use Rattle.corners.specs.declared.NumberedAnswer.{NumberedAnswer}
 use Rattle.corners.specs.Corners.{Answer, numbered}
 use Rattle.report.specs.Lines.{numbered_lines, answer_lines}
@@ -28,31 +30,7 @@ whole a before after n long wrote on =
 -- by its number an answer has the lines that it has: no refusal has the number 0
 pub same_lines : (a : Answer) → numbered_lines (numbered a) ≡ answer_lines a
 same_lines (Ok r) = refl
-same_lines (Err Size) = refl
-same_lines (Err Photograph) = refl
-same_lines (Err Grid) = refl
-same_lines (Err Scale) = refl
-same_lines (Err Corner) = refl
-same_lines (Err Lens) = refl
-same_lines (Err Sheet) = refl
-same_lines (Err Quad) = refl
-same_lines (Err Thin) = refl
-same_lines (Err Line) = refl
-same_lines (Err Overflow) = refl
-same_lines (Err Card) = refl
-same_lines (Err Points) = refl
-same_lines (Err Pairing) = refl
-same_lines (Err Finite) = refl
-same_lines (Err Weight) = refl
-same_lines (Err Outside) = refl
-same_lines (Err Parallel) = refl
-same_lines (Err Profile) = refl
-same_lines (Err Place) = refl
-same_lines (Err Window) = refl
-same_lines (Err Room) = refl
-same_lines (Err Form) = refl
-same_lines (Err Count) = refl
-same_lines (Err Settings) = refl
+same_lines (Err refusal) = rw (ne_eqb (number refusal) 0 (λ e. omega (arith, number_positive refusal))) refl
 
 pub puts_answer : {given : NumberedAnswer} (a : Answer) {before after : List ℕ} {n : ℕ} → given ≡ numbered a → Puts before 0 (numbered_lines given) after n → Puts before 0 (answer_lines a) after n
 puts_answer a {before = before} {after = after} {n = n} is puts = subst (λ (text : List ℕ). Puts before 0 text after n) (ap numbered_lines is ∙ same_lines a) puts
