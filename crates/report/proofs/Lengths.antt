@@ -14,9 +14,10 @@ use Rattle.fit.specs.declared.EdgeStat.{EdgeStat}
 use Rattle.fit.specs.Fit.{stat}
 use Rattle.corners.specs.declared.RefinedCorners.{RefinedCorners}
 use Rattle.corners.specs.declared.NumberedAnswer.{NumberedAnswer}
-use Rattle.std.specs.Prelude.{eqb}
+use Rattle.std.specs.Prelude.{eqb, Ok, Err}
+use Rattle.corners.specs.Corners.{Answer, numbered}
 use Rattle.text.proofs.Digits.{length-decimal, length-hexadecimal}
-use Rattle.report.specs.Lines.{result_line, corner_line, edge_line, each_of_four, corner_lines, edge_lines, numbered_lines}
+use Rattle.report.specs.Lines.{result_line, corner_line, edge_line, each_of_four, corner_lines, edge_lines, numbered_lines, answer_lines}
 
 length-result : (n : ℕ) → length (result_line n) ≤ 28
 length-result n = simp length-append (omega (arith, length-decimal n))
@@ -40,11 +41,16 @@ length_edges r =
     length-four (λ i. edge_line i (get_or r.edge_stats i (stat 0 0 0 false))) 110
     (λ i. length-edge i (get_or r.edge_stats i (stat 0 0 0 false)))
 
-pub length-answer : (a : NumberedAnswer) → length (numbered_lines a) ≤ 800
-length-answer a =
+-- whatever its number
+pub length-numbered : (a : NumberedAnswer) → length (numbered_lines a) ≤ 800
+length-numbered a =
     let lines = corner_lines a.refined ++ edge_lines a.refined in
     let long : length (result_line a.number ++ lines) ≤ 800 =
     rw (length-append (result_line a.number) lines, length-append (corner_lines a.refined) (edge_lines a.refined))
     (omega (arith, length-result a.number, length_corners a.refined, length_edges a.refined)) in
     let short : length (result_line a.number) ≤ 800 = omega (arith, length-result a.number) in
     either (λ (text : List ℕ). length text ≤ 800) (eqb a.number number.answer) long short
+
+pub length-answer : (a : Answer) → length (answer_lines a) ≤ 800
+length-answer (Ok r) = length-numbered (numbered (Ok r))
+length-answer (Err refusal) = omega (arith, length-result (number.number refusal))

@@ -14,18 +14,27 @@ use Rattle.corners.specs.declared.NumberedAnswer.{NumberedAnswer}
 use Rattle.corners.specs.Corners.{Answer, numbered}
 use Rattle.report.specs.Lines.{numbered_lines, answer_lines}
 use Rattle.report.specs.Puts.{Puts}
-use Rattle.report.proofs.Lengths.{length-answer}
+use Rattle.report.proofs.Lengths.{length-numbered, length-answer}
 
 -- so many bytes at the front, as `io` counts them
 pub counted : (n : ℕ) (s : List ℕ) → n ≤ length s → IsPrefixLen n s
 counted n s h = (h, sym (length-take-le n s h))
 
-pub whole : (a : NumberedAnswer) (before after : List ℕ) (n : ℕ) → length before ≡ 1024 → after ≡ sets before 0 (numbered_lines a) → n ≡ min (length (numbered_lines a)) 1024
-    → IsPrefixLen n after × Puts before 0 (numbered_lines a) after n
-whole a before after n long wrote on =
-    let room = length-answer a in
-    let kept : length after ≡ length before = rw wrote (length-sets before 0 (numbered_lines a)) in
+-- lines that are no longer than an answer's
+whole_lines : (lines before after : List ℕ) (n : ℕ) → length lines ≤ 800 → length before ≡ 1024 → after ≡ sets before 0 lines → n ≡ min (length lines) 1024
+    → IsPrefixLen n after × Puts before 0 lines after n
+whole_lines lines before after n room long wrote on =
+    let kept : length after ≡ length before = rw wrote (length-sets before 0 lines) in
     (counted n after (omega arith), record { wrote = wrote; on = omega arith })
+
+-- whatever its number
+pub whole_numbered : (a : NumberedAnswer) (before after : List ℕ) (n : ℕ) → length before ≡ 1024 → after ≡ sets before 0 (numbered_lines a) → n ≡ min (length (numbered_lines a)) 1024
+    → IsPrefixLen n after × Puts before 0 (numbered_lines a) after n
+whole_numbered a before after n = whole_lines (numbered_lines a) before after n (length-numbered a)
+
+pub whole : (a : Answer) (before after : List ℕ) (n : ℕ) → length before ≡ 1024 → after ≡ sets before 0 (answer_lines a) → n ≡ min (length (answer_lines a)) 1024
+    → IsPrefixLen n after × Puts before 0 (answer_lines a) after n
+whole a before after n = whole_lines (answer_lines a) before after n (length-answer a)
 
 -- by its number an answer has the lines that it has: no refusal has the number 0
 pub same_lines : (a : Answer) → numbered_lines (numbered a) ≡ answer_lines a
